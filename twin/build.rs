@@ -1,0 +1,65 @@
+//! Builds the proved static library and links it to the twin.
+
+use std::env;
+use std::fs::File;
+use std::path::{Path, PathBuf};
+use std::process::{Command, Output};
+use std::time::SystemTime;
+
+const COMMAND: &str = "rt staticlib host";
+
+fn main() {
+    let top = repository_top();
+    let library_folder = top.join("target").join("staticlib");
+    let archive = library_folder.join("libhost.a");
+
+    build_archive(&top);
+    date_before_any_run(&archive);
+
+    for input in [top.join("crates"), top.join("crates.txt"), archive] {
+        println!("cargo::rerun-if-changed={}", input.display());
+    }
+    println!(
+        "cargo::rustc-link-search=native={}",
+        library_folder.display()
+    );
+    println!("cargo::rustc-link-lib=static=host");
+}
+
+/// The folder that holds the twin's folder.
+fn repository_top() -> PathBuf {
+    let manifest_folder = env::var_os("CARGO_MANIFEST_DIR").expect("cargo sets CARGO_MANIFEST_DIR");
+    let top = Path::new(&manifest_folder).parent();
+    top.expect("the twin stands in a repository").to_path_buf()
+}
+
+fn build_archive(top: &Path) {
+    let mut words = COMMAND.split(' ');
+    let program = words.next().expect("the command has a first word");
+    match Command::new(program).args(words).current_dir(top).output() {
+        Ok(output) if output.status.success() => {}
+        Ok(output) => panic!("{}", failure(top, &output)),
+        Err(error) => panic!(
+            "`{COMMAND}` could not be started in {}: {error} (is `{program}` on PATH?)",
+            top.display()
+        ),
+    }
+}
+
+fn failure(top: &Path, output: &Output) -> String {
+    format!(
+        "`{COMMAND}` failed in {} with {}\n{}{}",
+        top.display(),
+        output.status,
+        String::from_utf8_lossy(&output.stdout),
+        String::from_utf8_lossy(&output.stderr)
+    )
+}
+
+/// An archive newer than the last run of this script would make cargo run it again at every build.
+fn date_before_any_run(archive: &Path) {
+    let dated = File::open(archive).and_then(|file| file.set_modified(SystemTime::UNIX_EPOCH));
+    if let Err(error) = dated {
+        panic!("`{COMMAND}` left no usable {}: {error}", archive.display());
+    }
+}
