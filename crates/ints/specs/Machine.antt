@@ -1,7 +1,7 @@
 -- What the machine's operations on bits are to the integers: a number read back from its bits, a test made of what was read, `==`,
 -- a cast to an unsigned type, `!`. (`<` and `<=` reach a proof as `<ℤ` and `≤ℤ`, which `omega signed` reads.) Assumes nothing.
 use mathlib.Core.Path.{_≡_, refl, sym, _∙_, ap}
-use mathlib.Core.Bool.{Bool, true, false}
+use mathlib.Core.Bool.{Bool, true, false, not}
 use Prim.Native.Nat.{suc, _+_, _-_, _^_, _<_}
 use native.Mathlib.Omega.{arith}
 use borrow.Author.Tests.{eqb-true, eqb-false, eq-eqb}
@@ -24,6 +24,14 @@ reads w z h = toZ-ofZ {w = w} {z = z} (record { sfits = h })
 -- a test p of what was read, made by a function that ensures `r ≡ p x`, had the outcome v: so has p of the number itself
 pub tested : {w : Width} {z : ℤ} {r v : Bool} (p : ℤ → Bool) → SFits w z → r ≡ p (toZ w (ofZ w z)) → r ≡ v → p z ≡ v
 tested p f e t = ap p (sym (toZ-ofZ f)) ∙ sym e ∙ t
+
+-- the same where the code tests `!r`
+pub tested-not : {w : Width} {z : ℤ} {r v : Bool} (p : ℤ → Bool) → SFits w z → r ≡ p (toZ w (ofZ w z)) → not r ≡ v → p z ≡ not v
+tested-not {r = r} p f e t = tested p f e (sym (not-not r) ∙ ap not t)
+  where
+    not-not : (s : Bool) → not (not s) ≡ s
+    not-not true = refl
+    not-not false = refl
 
 -- ---- `==`, which compares bits
 

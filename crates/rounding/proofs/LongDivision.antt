@@ -1,0 +1,35 @@
+-- What the two steps of the long division of 100000 × part by whole give: their sizes, and that whole part and rest make
+-- the quotient. Assumes nothing.
+use mathlib.Core.Path.{_≡_}
+use Prim.Native.Nat.{ℕ, _+_, _*_, _/_, _%_, _≤_, _<_}
+use native.Mathlib.Omega.{arith}
+use native.Mathlib.Nat.{div-le-of-le-mul, mod-lt, div-add-mod'}
+use Rattle.rounding.specs.Round.{nearestOf}
+use Rattle.rounding.specs.Nearest.{nearest-mono, nearest-exact}
+
+pub record Steps (part whole first left second rest : ℕ) : Type 0 where
+  pub first-small : first ≤ 1000
+  pub left-small : left < whole
+  pub second-small : second ≤ 100
+  pub rest-small : rest < whole
+  pub together : 100000 * part ≡ (100 * first + second) * whole + rest
+
+pub steps :
+    (part whole : ℕ) → part ≤ whole → 0 < whole →
+    Steps part whole (1000 * part / whole) (1000 * part % whole) (100 * (1000 * part % whole) / whole) (100 * (1000 * part % whole) % whole)
+steps part whole h k =
+    let left = 1000 * part % whole in
+    let small : left < whole = mod-lt (1000 * part) k in
+    let e = div-add-mod' (1000 * part) whole in
+    let f = div-add-mod' (100 * left) whole in
+    record {
+      first-small = div-le-of-le-mul whole (omega arith);
+      left-small = small;
+      second-small = div-le-of-le-mul whole (omega arith);
+      rest-small = mod-lt (100 * left) k;
+      together = omega arith;
+    }
+
+pub share-most : (part whole : ℕ) → part ≤ whole → 0 < whole → nearestOf (100000 * part) whole ≤ 100000
+share-most part whole h k =
+    omega (arith, nearest-mono (100000 * part) (whole * 100000) whole k (omega arith), nearest-exact 100000 whole k)

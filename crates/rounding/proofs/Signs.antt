@@ -1,0 +1,56 @@
+-- A size with its sign: what `with_sign` gives on either side of zero, and a rounded quotient from the sizes of its parts.
+-- Assumes nothing.
+use mathlib.Core.Path.{_≡_, refl, sym, _∙_, ap, ap₂}
+use Prim.Native.Nat.{ℕ, zero, suc, _-_, _<_, _≤_}
+use native.Mathlib.Omega.{arith}
+use lib.IntN.{ℤ, pos, negsuc, negℤ, natAbs}
+use lib.Signed.{_≤ℤ_, _<ℤ_, natAbs-le}
+use mir.Syntax.{w64}
+use mir.Val.{SFits, toZ, ofZ}
+use mir.Facts.{toZ-ofZ, toZ-pos}
+use Rattle.ints.specs.Order.{signed, of-le, of-lt}
+use Rattle.ints.specs.Machine.{not-read}
+use Rattle.rounding.specs.Round.{nearestOf, withSign, round}
+use Rattle.rounding.specs.Nearest.{nearest-small}
+use Rattle.rounding.specs.Laws.{round-by}
+
+-- ---- on either side of zero
+
+pub above-fits : (a : ℤ) (n : ℕ) → pos 0 ≤ℤ a → SFits w64 a → n ≤ natAbs a → SFits w64 (pos n)
+above-fits (pos a) n h f l = omega (arith, f .sfits)
+above-fits (negsuc a) n h f l = absurd (omega (signed, of-le h))
+
+pub above-is : (a : ℤ) (n : ℕ) → pos 0 ≤ℤ a → SFits w64 (pos n) → toZ w64 n ≡ withSign a n
+above-is (pos a) n h f = toZ-pos w64 (f .sfits)
+above-is (negsuc a) n h f = absurd (omega (signed, of-le h))
+
+pub zero-is : (a : ℤ) → pos 0 ≡ withSign a 0
+zero-is (pos a) = refl
+zero-is (negsuc a) = refl
+
+one-less : (n : ℕ) → 0 < n → negsuc (n - 1) ≡ negℤ (pos n)
+one-less zero h = absurd (omega arith)
+one-less (suc n) h = ap negsuc (omega arith)
+
+pub below-is : (a : ℤ) (n : ℕ) → a <ℤ pos 0 → 0 < n → n ≤ 9223372036854775808 → toZ w64 (18446744073709551615 - (n - 1)) ≡ withSign a n
+below-is (pos a) n h k l = absurd (omega (signed, of-lt h))
+below-is (negsuc a) n h k l = not-read {w = w64} {z = pos (n - 1)} (omega arith) ∙ one-less n k
+
+-- ---- sizes
+
+pub size-above : (b : ℤ) → pos 0 <ℤ b → 0 < natAbs b
+size-above (pos n) h = omega (signed, of-lt h)
+size-above (negsuc n) h = absurd (omega (signed, of-lt h))
+
+-- what `ints::size` ensures of a number that the machine read
+pub size-read : {r : ℕ} {a : ℤ} → SFits w64 a → r ≡ natAbs (toZ w64 (ofZ w64 a)) → r ≡ natAbs a
+size-read f e = e ∙ ap natAbs (toZ-ofZ f)
+
+-- ---- a rounded quotient from the sizes of its parts
+
+module _ (a b : ℤ) (r s n : ℕ) (r-is : r ≡ natAbs a) (s-is : s ≡ natAbs b) (n-is : n ≡ nearestOf r s) (h : pos 0 <ℤ b) where
+  pub quotient-is : withSign a n ≡ round a b
+  quotient-is = ap (withSign a) (n-is ∙ ap₂ nearestOf r-is s-is) ∙ sym (round-by a b h)
+
+  pub quotient-small : n ≤ natAbs a
+  quotient-small = omega (arith, nearest-small r s (omega (arith, size-above b h)))

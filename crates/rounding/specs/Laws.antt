@@ -1,0 +1,126 @@
+-- The laws of round(a/b) that the books cite. None names how a half goes: all follow from `nearest-near` and from going by sign.
+-- Assumes nothing.
+use mathlib.Core.Path.{_≡_, refl, sym, _∙_, ap, subst}
+use mathlib.Core.Bool.{Bool, true, false, cond}
+use Prim.Native.Nat.{ℕ, zero, suc, _+_, _*_, _/_, _≤_, _<_}
+use native.Mathlib.Omega.{arith}
+use native.Mathlib.Nat.{le-trans}
+use lib.Dec.{T, ltb, ltb→lt, leb→le}
+use lib.IntN.{ℤ, pos, negsuc, negℤ, natAbs, _+ℤ_, _-ℤ_, _*ℤ_, negℤ-negℤ}
+use lib.Signed.{ltZ, _≤ℤ_, _<ℤ_, ≤ℤ-refl}
+use Rattle.ints.specs.Ring.{solve, _:*_, _:=_, neg}
+use Rattle.ints.specs.Order.{signed, sum, diff, minus, prod, of-le, of-lt}
+use Rattle.ints.specs.Range.{Between, Within}
+use Rattle.ints.specs.Bound.{Bound, abs-neg}
+use Rattle.ints.specs.Exact.{Exact}
+use Rattle.rounding.specs.Round.{nearestOf, withSign, round}
+use Rattle.rounding.specs.Nearest.{Near, nearest-near, nearest-mono, nearest-exact, nearest-zero, nearest-small, nearest-by}
+
+-- ---- by cases on the divisor
+
+pub round-by : (a b : ℤ) → pos 0 <ℤ b → round a b ≡ withSign a (nearestOf (natAbs a) (natAbs b))
+unfolding round
+round-by a b h = let t : ltZ b (pos 1) ≡ false = omega signed in simp t
+
+round-above : (a : ℤ) (b : ℕ) → 0 < b → round a (pos b) ≡ withSign a (nearestOf (natAbs a) b)
+round-above a b h = round-by a (pos b) (omega signed)
+
+pub round-below : (a b : ℤ) → b <ℤ pos 1 → round a b ≡ pos 0
+unfolding round
+round-below a b h = let t : ltZ b (pos 1) ≡ true = omega signed in simp t
+
+by-divisor : (P : ℤ → Type 0) (b : ℤ) → (b <ℤ pos 1 → P b) → ((k : ℕ) → 0 < k → P (pos k)) → P b
+by-divisor P (pos zero) f g = f (record { lt = tt })
+by-divisor P (pos (suc k)) f g = g (suc k) (omega arith)
+by-divisor P (negsuc k) f g = f (record { lt = tt })
+
+-- ---- 2 × |a − b × round(a/b)| ≤ b
+
+sign-near : (a : ℤ) (b q : ℕ) → Near (natAbs a) b q → Between (negℤ (pos b)) (pos b) (pos 2 *ℤ (a -ℤ pos b *ℤ withSign a q))
+sign-near (pos n) b q h = omega (signed, minus (pos b), diff (pos n) (pos (b * q)), prod (pos 2) (pos n -ℤ pos (b * q)))
+sign-near (negsuc n) b q h =
+    rw (solve 2 (λ b q. b :* neg q := neg (b :* q)) tt (pos b) (pos q))
+    (omega (signed, minus (pos b), minus (pos (b * q)), diff (negsuc n) (negℤ (pos (b * q))), prod (pos 2) (negsuc n -ℤ negℤ (pos (b * q)))))
+
+pub round-near : (a b : ℤ) → pos 0 <ℤ b → Between (negℤ b) b (pos 2 *ℤ (a -ℤ b *ℤ round a b))
+round-near a (pos b) h = 
+    let k : 0 < b = omega signed in
+    rw (round-above a b k) (sign-near a b (nearestOf (natAbs a) b) (nearest-near (natAbs a) b k))
+round-near a (negsuc b) h = absurd (h .lt)
+
+-- ---- round(−a/b) = −round(a/b)
+
+sign-neg : (a : ℤ) (b : ℕ) → 0 < b → withSign (negℤ a) (nearestOf (natAbs (negℤ a)) b) ≡ negℤ (withSign a (nearestOf (natAbs a) b))
+sign-neg (pos zero) b h = simp (nearest-zero b h)
+sign-neg (pos (suc n)) b h = refl
+sign-neg (negsuc n) b h = sym (negℤ-negℤ (pos (nearestOf (suc n) b)))
+
+pub round-neg : (a b : ℤ) → round (negℤ a) b ≡ negℤ (round a b)
+round-neg a b =
+    by-divisor (λ b. round (negℤ a) b ≡ negℤ (round a b)) b (λ h. simp (round-below (negℤ a) b h, round-below a b h))
+    (λ k h. round-above (negℤ a) k h ∙ sign-neg a k h ∙ sym (ap negℤ (round-above a k h)))
+
+-- ---- monotone
+
+sign-mono : (x y : ℤ) (b : ℕ) → 0 < b → x ≤ℤ y → withSign x (nearestOf (natAbs x) b) ≤ℤ withSign y (nearestOf (natAbs y) b)
+sign-mono (pos n) (pos m) b h k = let e = nearest-mono n m b h (leb→le n m (k .le)) in omega signed
+sign-mono (pos n) (negsuc m) b h k = absurd (k .le)
+sign-mono (negsuc n) (pos m) b h k = omega (signed, minus (pos (nearestOf (suc n) b)))
+sign-mono (negsuc n) (negsuc m) b h k =
+    let e = nearest-mono (suc m) (suc n) b h (omega (arith, leb→le m n (k .le))) in
+    omega (signed, minus (pos (nearestOf (suc n) b)), minus (pos (nearestOf (suc m) b)))
+
+pub round-mono : (x y b : ℤ) → x ≤ℤ y → round x b ≤ℤ round y b
+round-mono x y b k =
+    by-divisor (λ b. round x b ≤ℤ round y b) b (λ h. rw (round-below x b h, round-below y b h) (≤ℤ-refl (pos 0)))
+    (λ d h. rw (round-above x d h, round-above y d h) (sign-mono x y d h k))
+
+-- ---- exact at multiples
+
+pub round-exact : (q b : ℤ) → pos 0 <ℤ b → round (b *ℤ q) b ≡ q
+round-exact (pos q) (pos b) h = let k : 0 < b = omega signed in round-above (pos (b * q)) b k ∙ ap pos (nearest-exact q b k)
+round-exact (negsuc q) (pos b) h =
+    let k : 0 < b = omega signed in
+    round-neg (pos (b * suc q)) (pos b) ∙ ap negℤ (round-above (pos (b * suc q)) b k ∙ ap pos (nearest-exact (suc q) b k))
+round-exact q (negsuc b) h = absurd (h .lt)
+
+-- ---- ranges: b × low ≤ a ≤ b × high gives low ≤ round(a/b) ≤ high
+
+pub round-between : (low high a b : ℤ) → pos 0 <ℤ b → Between (b *ℤ low) (b *ℤ high) a → Between low high (round a b)
+round-between low high a b h k =
+    record {
+      above = rw (round-exact low b h) at (round-mono (b *ℤ low) a b (k .above));
+      below = rw (round-exact high b h) at (round-mono a (b *ℤ high) b (k .below));
+    }
+
+-- ---- for `search`: the size of a rounded quotient, and its exact value
+
+sign-abs : (a : ℤ) (n : ℕ) → natAbs (withSign a n) ≡ n
+sign-abs (pos a) n = refl
+sign-abs (negsuc a) n = abs-neg (pos n)
+
+-- by any divisor
+pub round-size : (a b : ℤ) → natAbs (round a b) ≤ natAbs a
+round-size a b =
+    by-divisor (λ b. natAbs (round a b) ≤ natAbs a) b (λ h. rw (round-below a b h) (omega arith))
+    (λ k h. rw (round-above a k h, sign-abs) (nearest-small (natAbs a) k h))
+
+-- by a numeral
+pub round-size-by : (a : ℤ) (b n : ℕ) → T (ltb 0 b) → natAbs a ≤ n → natAbs (round a (pos b)) ≤ n / b + 1
+round-size-by a b n t k =
+    let h = ltb→lt 0 b t in
+    rw (round-above a b h, sign-abs) (nearest-by (natAbs a) n b h k)
+
+abbrev pub b-round : {a : ℤ} (b : ℤ) → Bound a → Bound (round a b)
+b-round {a} b p = record { size = p .size; bound = le-trans (round-size a b) (p .bound) }
+
+abbrev pub b-round-by : {a : ℤ} (b : ℕ) → T (ltb 0 b) → Bound a → Bound (round a (pos b))
+b-round-by {a} b t p = record { size = p .size / b + 1; bound = round-size-by a b (p .size) t (p .bound) }
+
+abbrev pub e-round : {x y : ℤ} (b : ℤ) → Exact x y → Exact (round x b) (round y b)
+e-round b p = record { size = b-round b (p .size); ok = p .ok; same = λ t. ap (λ z. round z b) (p .same t) }
+
+abbrev pub e-round-by : {x y : ℤ} (b : ℕ) → T (ltb 0 b) → Exact x y → Exact (round x (pos b)) (round y (pos b))
+e-round-by b t p = record { size = b-round-by b t (p .size); ok = p .ok; same = λ s. ap (λ z. round z (pos b)) (p .same s) }
+
+pub ruleset rounds = (b-round-by, e-round-by, b-round, e-round, tt)
