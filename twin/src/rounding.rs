@@ -13,7 +13,7 @@ pub fn round(a: i128, b: i128) -> i128 {
     }
     let towards_zero = a / b;
     let rest = (a % b).abs();
-    if rest < b - rest {
+    if 2 * rest < b {
         towards_zero
     } else {
         towards_zero + a.signum()

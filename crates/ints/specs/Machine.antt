@@ -1,8 +1,8 @@
 -- What the machine's operations on bits are to the integers: a number read back from its bits, a test made of what was read, `==`,
 -- a cast to an unsigned type, `!`. (`<` and `<=` reach a proof as `<ℤ` and `≤ℤ`, which `omega signed` reads.) Assumes nothing.
-use mathlib.Core.Path.{_≡_, refl, sym, _∙_, ap}
+use mathlib.Core.Path.{_≡_, refl, sym, _∙_, ap, ap₂}
 use mathlib.Core.Bool.{Bool, true, false, not}
-use Prim.Native.Nat.{suc, _+_, _-_, _^_, _<_}
+use Prim.Native.Nat.{suc, _+_, _-_, _^_, _≤_, _<_}
 use native.Mathlib.Omega.{arith}
 use borrow.Author.Tests.{eqb-true, eqb-false, eq-eqb}
 use lib.Dec.{T, eqb, ltb}
@@ -20,6 +20,10 @@ use Rattle.ints.specs.Bound.{twice}
 -- of a call's result a need is told the bare bound: `reads w64 (c .f .result) (c .f .ok)`
 pub reads : (w : Width) (z : ℤ) → mag z < 2 ^ hbits w → toZ w (ofZ w z) ≡ z
 reads w z h = toZ-ofZ {w = w} {z = z} (record { sfits = h })
+
+-- a call handed on: its result is f of the two numbers that were passed
+pub handed-on : {w : Width} {x y : ℤ} (f : ℤ → ℤ → ℤ) (r : ℤ) → SFits w x → SFits w y → mag r < 2 ^ hbits w → r ≡ f (toZ w (ofZ w x)) (toZ w (ofZ w y)) → toZ w (ofZ w r) ≡ f x y
+handed-on {w} f r p q h e = reads w r h ∙ e ∙ ap₂ f (toZ-ofZ p) (toZ-ofZ q)
 
 -- a test p of what was read, made by a function that ensures `r ≡ p x`, had the outcome v: so has p of the number itself
 pub tested : {w : Width} {z : ℤ} {r v : Bool} (p : ℤ → Bool) → SFits w z → r ≡ p (toZ w (ofZ w z)) → r ≡ v → p z ≡ v
@@ -80,6 +84,6 @@ not-read {w} {z = pos n} f = ap (toZ w) (omega arith) ∙ toZ-neg w n (f .sfits)
 not-read {w} {z = negsuc n} f = ap (toZ w) (omega (arith, twice w)) ∙ toZ-pos w (f .sfits)
 
 -- of a number below zero it is one less than its size
-pub flip-below : (z : ℤ) → z <ℤ pos 0 → T (nonNeg (flip z)) × (natAbs (flip z) + 1 ≡ natAbs z)
-flip-below (pos n) h = absurd (omega (signed, of-lt h))
-flip-below (negsuc n) h = (tt, omega arith)
+pub flip-below : {w : Width} {z : ℤ} → SFits w z → z <ℤ pos 0 → T (nonNeg (flip z)) × (natAbs (flip z) + 1 ≡ natAbs z) × (natAbs z ≤ 2 ^ hbits w)
+flip-below {w} {z = pos n} f h = absurd (omega (signed, of-lt h))
+flip-below {w} {z = negsuc n} f h = (tt, omega arith, f .sfits)

@@ -4,11 +4,10 @@
 -- `prod (pos 95) x`, is linear. Assumes nothing.
 use mathlib.Core.Path.{_≡_, refl, ap}
 use mathlib.Core.Bool.{Bool, true, false}
-use Prim.Native.Nat.{ℕ, zero, suc, _+_, _*_, _<_, _≤_}
-use native.Mathlib.Nat.{mul-le-mul-left}
+use Prim.Native.Nat.{_+_, _*_, _<_, _≤_}
 use native.Mathlib.Omega.{arith}
 use lib.Dec.{T-not}
-use lib.IntN.{ℤ, pos, negsuc, negℤ, _+ℤ_, _-ℤ_, _*ℤ_}
+use lib.IntN.{ℤ, negℤ, _+ℤ_, _-ℤ_, _*ℤ_}
 use lib.Signed.{leZ, ltZ, _≤ℤ_, _<ℤ_, leZ-yes, ltZ-yes, ltZ-no}
 use mir.Syntax.{Width}
 use mir.Val.{SFits, toZ, ofZ}
@@ -105,13 +104,3 @@ to-leZ-false x y h = T-false (leZ x y) (λ t. clash (le-parts x y (record { le =
 
 pub ruleset signed =
     (arith, of-le, of-lt, of-eq, of-ltZ-true, of-ltZ-false, of-leZ-true, of-leZ-false, of-read, to-le, to-lt, to-eq, to-ltZ-true, to-leZ-true, to-ltZ-false, to-leZ-false)
-
--- ---- products in an order, which are not linear
-
-pub mul-mono : (k : ℕ) (x y : ℤ) → x ≤ℤ y → (pos k *ℤ x) ≤ℤ (pos k *ℤ y)
-mul-mono k x y h = omega (signed, prod (pos k) x, prod (pos k) y, mul-le-mul-left k (of-le h))
-
-pub mul-nonneg : (x y : ℤ) → pos 0 ≤ℤ x → pos 0 ≤ℤ y → pos 0 ≤ℤ (x *ℤ y)
-mul-nonneg (pos a) (pos b) h k = omega signed
-mul-nonneg (pos a) (negsuc b) h k = absurd (k .le)
-mul-nonneg (negsuc a) y h k = absurd (h .le)

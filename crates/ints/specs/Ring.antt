@@ -8,7 +8,6 @@ use Prim.Native.Nat.{ℕ, zero, suc}
 use native.Mathlib.Omega.{arith}
 use lib.Dec.{T, leb, eqb, eqb→eq}
 use lib.IntN.{ℤ, pos, negsuc, negℤ, _+ℤ_, _-ℤ_, _*ℤ_, zero-*ℤ, +ℤ-idl, +ℤ-idr}
-use lib.Signed.{_≤ℤ_}
 use Rattle.ints.specs.Flags.{T-left, T-right}
 use Rattle.ints.specs.Difference.{differences, split}
 
@@ -255,12 +254,6 @@ for-all (suc n) P f = λ x. for-all n (λ ρ. P (x ∷ ρ)) (λ ρ. f (x ∷ ρ)
 pub solve : (n : ℕ) (f : Over n) → T (sidesAgree (numbered n 0 f)) → ForAll n (Holds (numbered n 0 f))
 solve n f t = for-all n (Holds (numbered n 0 f)) (λ ρ. agree-sound ρ (numbered n 0 f) t)
 
--- ---- with a hypothesis: the first premise is `solve`'s
-
--- x = y where x − y is a multiple of a − b, and a = b
+-- with an equation a = b at hand: x = y where x − y is a multiple of a − b, which `solve` shows
 pub eq-by : (x y k a b : ℤ) → x -ℤ y ≡ k *ℤ (a -ℤ b) → a ≡ b → x ≡ y
 eq-by x y k a b e h = equal-by-difference x y (e ∙ ap (λ z. k *ℤ (z -ℤ b)) h ∙ solve 2 (λ k b. k :* (b :- b) := # 0) tt k b)
-
--- x ≤ y where y − x is a sum or a product that is not negative
-pub le-by : (x y z : ℤ) → y -ℤ x ≡ z → pos 0 ≤ℤ z → x ≤ℤ y
-le-by x y z = rw (split x, split y, split z) (simp differences (omega arith))

@@ -1,7 +1,8 @@
-// Worked examples of signed code: one function for each kind of fact that such code asks of its proof. Nothing calls them.
+// Worked examples of signed code, one function for each kind of fact that such code asks of its proof (proofs/examples/). Nothing
+// calls them.
 ghost use mathlib.Core.Path.{_≡_};
 ghost use mathlib.Core.Bool.{cond};
-ghost use lib.IntN.{pos, negℤ, natAbs, _+ℤ_, _-ℤ_, _*ℤ_};
+ghost use lib.IntN.{pos, negℤ, _+ℤ_, _-ℤ_, _*ℤ_};
 ghost use lib.Signed.{_≤ℤ_};
 ghost use Rattle.ints.specs.Range.{Between, Within, inRange};
 ghost use Rattle.ints.specs.Machine.{eqZ};
@@ -18,20 +19,20 @@ fn variance(cost: Money, base: i64, sales: i64, rest: i64) -> i64
     95 * (1000 * cost.0 - base * sales) + rest
 }
 
-// A wider type, from a number of which only its type is known.
+// A wider type, of a number of which only its type is known.
 fn scaled(money: Money, rate: Rate) -> Money
-    requires { ⌜ Within 1000000 (money .0) ⌝ }
-    ensures { λ r. ⌜ (r .0 ≡ money .0 *ℤ rate .0) × Within 3000000000000000 (r .0) ⌝ }
+    requires { ⌜ Within 2000000 (money .0) ⌝ }
+    ensures { λ r. ⌜ r .0 ≡ money .0 *ℤ rate .0 ⌝ }
 {
     Money(money.0 * (rate.0 as i64))
 }
 
-// A callee's result in arithmetic: what it ensures gives value and range.
-fn scaled_less(money: Money, rate: Rate) -> i64
+// A call with a range to show, and its result in a sum: what it ensures gives value and range.
+fn doubled(money: Money, rate: Rate) -> i64
     requires { ⌜ Within 1000000 (money .0) ⌝ }
-    ensures { λ r. ⌜ r ≡ money .0 *ℤ rate .0 -ℤ pos 7 ⌝ }
+    ensures { λ r. ⌜ r ≡ pos 2 *ℤ money .0 *ℤ rate .0 -ℤ pos 7 ⌝ }
 {
-    scaled(money, rate).0 - 7
+    scaled(Money(2 * money.0), rate).0 - 7
 }
 
 // A narrower type.
@@ -44,13 +45,13 @@ fn narrowed(x: i64) -> i32
 
 // An unsigned type, of a number that is not negative.
 fn counted(x: i64) -> u64
-    requires { ⌜ Between (pos 0) (pos 10000000000) x ⌝ }
+    requires { ⌜ pos 0 ≤ℤ x ⌝ }
     ensures { λ r. ⌜ pos r ≡ x ⌝ }
 {
     x as u64
 }
 
-// `<` and `<=` on a field: an order, for omega.
+// `<=` on fields: an order.
 fn at_most(money: Money, limit: Money) -> Money
     ensures { λ r. ⌜ r .0 ≤ℤ limit .0 ⌝ }
 {
@@ -60,7 +61,7 @@ fn at_most(money: Money, limit: Money) -> Money
     limit
 }
 
-// `==` on fields compares bits.
+// `==` on fields: it compares bits.
 fn same(a: Money, b: Money) -> bool
     ensures { λ r. ⌜ r ≡ eqZ (a .0) (b .0) ⌝ }
 {
@@ -75,4 +76,29 @@ fn kept(money: Money) -> Money
         return money;
     }
     Money(0)
+}
+
+// The same where the code tests its negation.
+fn kept_out(money: Money) -> Money
+    ensures { λ r. ⌜ r .0 ≡ cond (inRange (negℤ (pos 100)) (pos 100) (money .0)) (pos 0) (money .0) ⌝ }
+{
+    if !crate::in_range(money.0, -100, 100) {
+        return money;
+    }
+    Money(0)
+}
+
+// A call of two numbers, handed on.
+fn sum(a: i64, b: i64) -> i64
+    requires { ⌜ Within 1000000000000 a × Within 1000000000000 b ⌝ }
+    ensures { λ r. ⌜ r ≡ a +ℤ b ⌝ }
+{
+    a + b
+}
+
+fn handed(a: i64, b: i64) -> i64
+    requires { ⌜ Within 1000000000000 a × Within 1000000000000 b ⌝ }
+    ensures { λ r. ⌜ r ≡ a +ℤ b ⌝ }
+{
+    sum(a, b)
 }

@@ -4,7 +4,7 @@ ghost use mathlib.Core.Path.{_≡_};
 ghost use lib.IntN.{natAbs};
 ghost use Rattle.ints.specs.Range.{inRange};
 
-pub mod examples;
+mod examples;
 
 // The size of a number, also of the least one, whose negation does not fit.
 pub fn size(a: i64) -> u64

@@ -4,7 +4,7 @@ use mathlib.Core.Path.{_≡_, refl, sym, _∙_, ap, ap₂}
 use Prim.Native.Nat.{ℕ, zero, suc, _-_, _<_, _≤_}
 use native.Mathlib.Omega.{arith}
 use lib.IntN.{ℤ, pos, negsuc, negℤ, natAbs}
-use lib.Signed.{_≤ℤ_, _<ℤ_, natAbs-le}
+use lib.Signed.{_≤ℤ_, _<ℤ_}
 use mir.Syntax.{w64}
 use mir.Val.{SFits, toZ, ofZ}
 use mir.Facts.{toZ-ofZ, toZ-pos}
@@ -36,21 +36,26 @@ pub below-is : (a : ℤ) (n : ℕ) → a <ℤ pos 0 → 0 < n → n ≤ 92233720
 below-is (pos a) n h k l = absurd (omega (signed, of-lt h))
 below-is (negsuc a) n h k l = not-read {w = w64} {z = pos (n - 1)} (omega arith) ∙ one-less n k
 
--- ---- sizes
-
-pub size-above : (b : ℤ) → pos 0 <ℤ b → 0 < natAbs b
-size-above (pos n) h = omega (signed, of-lt h)
-size-above (negsuc n) h = absurd (omega (signed, of-lt h))
+-- ---- a rounded quotient from the sizes of its parts
 
 -- what `ints::size` ensures of a number that the machine read
 pub size-read : {r : ℕ} {a : ℤ} → SFits w64 a → r ≡ natAbs (toZ w64 (ofZ w64 a)) → r ≡ natAbs a
 size-read f e = e ∙ ap natAbs (toZ-ofZ f)
 
--- ---- a rounded quotient from the sizes of its parts
+pub record Parts (a b : ℤ) (r s : ℕ) : Type 0 where
+  pub dividend : r ≡ natAbs a
+  pub divisor : s ≡ natAbs b
+  pub positive : pos 0 <ℤ b
 
-module _ (a b : ℤ) (r s n : ℕ) (r-is : r ≡ natAbs a) (s-is : s ≡ natAbs b) (n-is : n ≡ nearestOf r s) (h : pos 0 <ℤ b) where
-  pub quotient-is : withSign a n ≡ round a b
-  quotient-is = ap (withSign a) (n-is ∙ ap₂ nearestOf r-is s-is) ∙ sym (round-by a b h)
+size-above : (b : ℤ) → pos 0 <ℤ b → 0 < natAbs b
+size-above (pos n) h = omega (signed, of-lt h)
+size-above (negsuc n) h = absurd (omega (signed, of-lt h))
 
-  pub quotient-small : n ≤ natAbs a
-  quotient-small = omega (arith, nearest-small r s (omega (arith, size-above b h)))
+pub divisor-above : {a b : ℤ} {r s : ℕ} → Parts a b r s → 0 < s
+divisor-above {b = b} p = omega (arith, p .divisor, size-above b (p .positive))
+
+pub quotient-small : {a b : ℤ} {r s n : ℕ} → Parts a b r s → n ≡ nearestOf r s → n ≤ natAbs a
+quotient-small {r = r} {s = s} p e = omega (arith, e, p .dividend, nearest-small r s (divisor-above p))
+
+pub quotient-is : {a b : ℤ} {r s n : ℕ} → Parts a b r s → n ≡ nearestOf r s → withSign a n ≡ round a b
+quotient-is {a} {b} p e = ap (withSign a) (e ∙ ap₂ nearestOf (p .dividend) (p .divisor)) ∙ sym (round-by a b (p .positive))

@@ -1,13 +1,14 @@
 -- The laws of round(a/b) that the books cite. None names how a half goes: all follow from `nearest-near` and from going by sign.
 -- Assumes nothing.
-use mathlib.Core.Path.{_≡_, refl, sym, _∙_, ap, subst}
-use mathlib.Core.Bool.{Bool, true, false, cond}
+use mathlib.Core.Path.{_≡_, refl, sym, _∙_, ap, ap₂}
+use mathlib.Core.Bool.{true, false, _&&_}
 use Prim.Native.Nat.{ℕ, zero, suc, _+_, _*_, _/_, _≤_, _<_}
 use native.Mathlib.Omega.{arith}
 use native.Mathlib.Nat.{le-trans}
 use lib.Dec.{T, ltb, ltb→lt, leb→le}
 use lib.IntN.{ℤ, pos, negsuc, negℤ, natAbs, _+ℤ_, _-ℤ_, _*ℤ_, negℤ-negℤ}
 use lib.Signed.{ltZ, _≤ℤ_, _<ℤ_, ≤ℤ-refl}
+use Rattle.ints.specs.Flags.{T-left, T-right}
 use Rattle.ints.specs.Ring.{solve, _:*_, _:=_, neg}
 use Rattle.ints.specs.Order.{signed, sum, diff, minus, prod, of-le, of-lt}
 use Rattle.ints.specs.Range.{Between, Within}
@@ -43,7 +44,7 @@ sign-near (negsuc n) b q h =
     (omega (signed, minus (pos b), minus (pos (b * q)), diff (negsuc n) (negℤ (pos (b * q))), prod (pos 2) (negsuc n -ℤ negℤ (pos (b * q)))))
 
 pub round-near : (a b : ℤ) → pos 0 <ℤ b → Between (negℤ b) b (pos 2 *ℤ (a -ℤ b *ℤ round a b))
-round-near a (pos b) h = 
+round-near a (pos b) h =
     let k : 0 < b = omega signed in
     rw (round-above a b k) (sign-near a b (nearestOf (natAbs a) b) (nearest-near (natAbs a) b k))
 round-near a (negsuc b) h = absurd (h .lt)
@@ -99,28 +100,33 @@ sign-abs : (a : ℤ) (n : ℕ) → natAbs (withSign a n) ≡ n
 sign-abs (pos a) n = refl
 sign-abs (negsuc a) n = abs-neg (pos n)
 
--- by any divisor
 pub round-size : (a b : ℤ) → natAbs (round a b) ≤ natAbs a
 round-size a b =
     by-divisor (λ b. natAbs (round a b) ≤ natAbs a) b (λ h. rw (round-below a b h) (omega arith))
     (λ k h. rw (round-above a k h, sign-abs) (nearest-small (natAbs a) k h))
 
--- by a numeral
-pub round-size-by : (a : ℤ) (b n : ℕ) → T (ltb 0 b) → natAbs a ≤ n → natAbs (round a (pos b)) ≤ n / b + 1
-round-size-by a b n t k =
-    let h = ltb→lt 0 b t in
-    rw (round-above a b h, sign-abs) (nearest-by (natAbs a) n b h k)
+pub round-size-by : (a b : ℤ) (n : ℕ) → natAbs a ≤ n → natAbs (round a b) ≤ n / natAbs b + 1
+round-size-by a b n l =
+    by-divisor (λ b. natAbs (round a b) ≤ n / natAbs b + 1) b (λ h. rw (round-below a b h) (omega arith))
+    (λ k h. rw (round-above a k h, sign-abs) (nearest-by (natAbs a) n k h l))
 
-abbrev pub b-round : {a : ℤ} (b : ℤ) → Bound a → Bound (round a b)
-b-round {a} b p = record { size = p .size; bound = le-trans (round-size a b) (p .bound) }
+pub round-same : {x y b d : ℤ} (p : Exact x y) (q : Exact b d) → T (p .ok && q .ok) → round x b ≡ round y d
+round-same p q t = ap₂ round (p .same (T-left (p .ok) (q .ok) t)) (q .same (T-right (p .ok) (q .ok) t))
 
-abbrev pub b-round-by : {a : ℤ} (b : ℕ) → T (ltb 0 b) → Bound a → Bound (round a (pos b))
-b-round-by {a} b t p = record { size = p .size / b + 1; bound = round-size-by a b (p .size) t (p .bound) }
+-- by a numeral: at one above zero the test computes
+abbrev pub b-round : {a : ℤ} (b : ℤ) → T (ltZ (pos 0) b) → Bound a → Bound (round a b)
+b-round {a} b t p = record { size = p .size / natAbs b + 1; bound = round-size-by a b (p .size) (p .bound) }
 
-abbrev pub e-round : {x y : ℤ} (b : ℤ) → Exact x y → Exact (round x b) (round y b)
-e-round b p = record { size = b-round b (p .size); ok = p .ok; same = λ t. ap (λ z. round z b) (p .same t) }
+abbrev pub e-round : {x y b d : ℤ} → T (ltZ (pos 0) d) → Exact x y → Exact b d → Exact (round x b) (round y d)
+e-round {d = d} t p q = record { size = b-round d t (p .size); ok = p .ok && q .ok; same = round-same p q }
 
-abbrev pub e-round-by : {x y : ℤ} (b : ℕ) → T (ltb 0 b) → Exact x y → Exact (round x (pos b)) (round y (pos b))
-e-round-by b t p = record { size = b-round-by b t (p .size); ok = p .ok; same = λ s. ap (λ z. round z (pos b)) (p .same s) }
+pub ruleset rounds = (b-round, e-round, tt)
 
-pub ruleset rounds = (b-round-by, e-round-by, b-round, e-round, tt)
+-- by any divisor
+abbrev pub b-round-any : {a : ℤ} (b : ℤ) → Bound a → Bound (round a b)
+b-round-any {a} b p = record { size = p .size; bound = le-trans (round-size a b) (p .bound) }
+
+abbrev pub e-round-any : {x y b d : ℤ} → Exact x y → Exact b d → Exact (round x b) (round y d)
+e-round-any {d = d} p q = record { size = b-round-any d (p .size); ok = p .ok && q .ok; same = round-same p q }
+
+pub ruleset rounds-any = (b-round-any, e-round-any)

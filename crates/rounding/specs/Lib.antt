@@ -3,3 +3,4 @@ pub mod Round
 pub mod Nearest
 pub mod Laws
 pub mod Weight
+pub mod Examples

@@ -5,6 +5,8 @@ ghost use lib.IntN.{natAbs};
 ghost use Rattle.rounding.specs.Round.{tieOf, roundedOf, nearestOf, withSign, round};
 ghost use Rattle.rounding.specs.Weight.{weightOr0};
 
+mod examples;
+
 // The most that can be weighed: 10^10 kWh at a loss factor of 2, in hundred-thousandths.
 pub const WEIGHED: i64 = 2_000_000_000_000_000;
 

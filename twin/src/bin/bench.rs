@@ -27,7 +27,7 @@ fn main() {
     );
     let extremes = prepare(extreme_quotient);
     row(
-        "round_div extremes",
+        "round_div_extremes",
         || pass(&extremes, proved::round_div),
         || pass(&extremes, rounding::round_div),
     );

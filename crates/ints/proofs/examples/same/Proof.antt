@@ -1,15 +1,14 @@
+-- An example: `==` compares bits, `eqZ` numbers. Assumes nothing.
 use mir.Syntax.{w64}
 use mir.Val.{SFits}
 use borrow.Author.Needs.{needs}
 use Rattle.ints.specs.Machine.{eqZ-bits}
 use Rattle.ints.proofs.examples.same.Statement.{statement}
 use Rattle.ints.proofs.examples.same.Tie as tie
-use Rattle.ints.proofs.examples.same.Reads as reads
-use Rattle.ints.proofs.examples.same.Lts as lts
 
--- src/examples.rt:64:1
 returns : tie.Need-returns
-returns c = let s = c .before .before .before .before .args in
+returns c =
+    let s = c .before .before .before .before .args in
     let f : SFits w64 (s .a .0) = search needs in
     let g : SFits w64 (s .b .0) = search needs in
     eqZ-bits f g

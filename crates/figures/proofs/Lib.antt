@@ -1,0 +1,2 @@
+-- The proof of the joint statement.
+pub mod Figures

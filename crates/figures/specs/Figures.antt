@@ -1,0 +1,11 @@
+-- Every marked figure of document 01 in one list, in the paper's order, and the joint statement over it.
+use mathlib.Core.List.{List}
+use Rattle.figures.specs.Figure.{Figure, AllHold}
+use Rattle.figures.specs.Rounding.{rounding}
+
+abbrev pub figures : List Figure
+figures = rounding
+
+-- proved in proofs/Figures.antt
+abbrev pub FiguresHold : Type 0
+FiguresHold = AllHold figures
