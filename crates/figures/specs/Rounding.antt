@@ -1,6 +1,6 @@
--- The figures of rounding, and the weight of the settlement's figure.
+-- The figures of rounding.
 use mathlib.Core.List.{List, [], _∷_}
-use lib.IntN.{ℤ, pos, negℤ}
+use lib.IntN.{pos, negℤ}
 use Rattle.rounding.specs.Round.{round}
 use Rattle.figures.specs.Figure.{Figure, _is_}
 

@@ -81,10 +81,6 @@ pub between-abs : {low high : ℤ} (z : ℤ) → Between low high z → natAbs z
 between-abs {low} {high} (pos n) h = omega (signed, abs-parts low, abs-parts high)
 between-abs {low} {high} (negsuc n) h = omega (signed, abs-parts low, abs-parts high)
 
-pub within-abs : {n : ℕ} (z : ℤ) → Within n z → natAbs z ≤ n
-within-abs {n} (pos a) h = omega (signed, of-le (h .below))
-within-abs {n} (negsuc a) h = omega (signed, of-le (h .above), minus (pos n))
-
 pub abs-within : {n : ℕ} (z : ℤ) → natAbs z ≤ n → Within n z
 abs-within {n} (pos a) h = omega (signed, minus (pos n))
 abs-within {n} (negsuc a) h = omega (signed, minus (pos n))

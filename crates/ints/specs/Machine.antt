@@ -2,15 +2,15 @@
 -- a cast to an unsigned type, `!`. (`<` and `<=` reach a proof as `<ℤ` and `≤ℤ`, which `omega signed` reads.) Assumes nothing.
 use mathlib.Core.Path.{_≡_, refl, sym, _∙_, ap, ap₂}
 use mathlib.Core.Bool.{Bool, true, false, not}
-use Prim.Native.Nat.{suc, _+_, _-_, _^_, _≤_, _<_}
+use Prim.Native.Nat.{_+_, _-_, _^_, _≤_, _<_}
 use native.Mathlib.Omega.{arith}
-use borrow.Author.Tests.{eqb-true, eqb-false, eq-eqb}
 use lib.Dec.{T, eqb, ltb}
 use lib.IntN.{ℤ, pos, negsuc, natAbs}
 use lib.Signed.{mag, nonNeg, yes-nonNeg, _≤ℤ_, _<ℤ_}
 use mir.Syntax.{Width}
 use mir.Val.{SFits, Fits, toZ, ofZ, bits, hbits}
 use mir.Facts.{toZ-ofZ, toZ-pos, toZ-neg, fits-natAbs}
+use borrow.Author.Tests.{eqb-true, eqb-false, eq-eqb}
 use Rattle.ints.specs.Flags.{T-true, T-false}
 use Rattle.ints.specs.Order.{signed, of-lt}
 use Rattle.ints.specs.Bound.{twice}

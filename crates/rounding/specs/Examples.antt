@@ -1,7 +1,6 @@
 -- How the laws of rounding are used (src/examples.rt has the uses in code). Nothing cites them. Assumes nothing.
-use native.Mathlib.Omega.{arith}
-use lib.IntN.{ℤ, pos, _+ℤ_, _-ℤ_, _*ℤ_}
-use Rattle.ints.specs.Order.{signed, sum, diff, prod}
+use lib.IntN.{ℤ, pos, _-ℤ_, _*ℤ_}
+use Rattle.ints.specs.Order.{signed, prod}
 use Rattle.ints.specs.Range.{Between, Within}
 use Rattle.rounding.specs.Round.{round}
 use Rattle.rounding.specs.Laws.{round-near, round-between}

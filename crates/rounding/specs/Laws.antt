@@ -5,13 +5,13 @@ use mathlib.Core.Bool.{true, false, _&&_}
 use Prim.Native.Nat.{ℕ, zero, suc, _+_, _*_, _/_, _≤_, _<_}
 use native.Mathlib.Omega.{arith}
 use native.Mathlib.Nat.{le-trans}
-use lib.Dec.{T, ltb, ltb→lt, leb→le}
-use lib.IntN.{ℤ, pos, negsuc, negℤ, natAbs, _+ℤ_, _-ℤ_, _*ℤ_, negℤ-negℤ}
+use lib.Dec.{T, leb→le}
+use lib.IntN.{ℤ, pos, negsuc, negℤ, natAbs, _-ℤ_, _*ℤ_, negℤ-negℤ}
 use lib.Signed.{ltZ, _≤ℤ_, _<ℤ_, ≤ℤ-refl}
 use Rattle.ints.specs.Flags.{T-left, T-right}
 use Rattle.ints.specs.Ring.{solve, _:*_, _:=_, neg}
-use Rattle.ints.specs.Order.{signed, sum, diff, minus, prod, of-le, of-lt}
-use Rattle.ints.specs.Range.{Between, Within}
+use Rattle.ints.specs.Order.{signed, diff, minus, prod}
+use Rattle.ints.specs.Range.{Between}
 use Rattle.ints.specs.Bound.{Bound, abs-neg}
 use Rattle.ints.specs.Exact.{Exact}
 use Rattle.rounding.specs.Round.{nearestOf, withSign, round}

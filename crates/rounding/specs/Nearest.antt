@@ -1,13 +1,13 @@
 -- Laws of the nearest whole number, on sizes. The first is the one law of the rule for a half; the rest follow from it whatever
 -- the rule. Assumes nothing.
-use mathlib.Core.Path.{_≡_, refl, _∙_, ap, ap₂}
+use mathlib.Core.Path.{_≡_, refl, ap, ap₂}
 use mathlib.Core.Logic.{_⊎_, inl, inr}
 use mathlib.Core.Bool.{Bool, true, false, cond}
 use Prim.Native.Nat.{ℕ, suc, _+_, _*_, _/_, _%_, _≤_, _<_}
 use native.Mathlib.Omega.{arith}
 use native.Mathlib.Nat.{div-add-mod', mod-lt, div-eq-of-lt-le, eq-or-lt-of-le, le-of-eq, le-of-suc-le-suc, le-antisymm, lt-of-mul-lt-mul-left, mul-le-mul-left, mul-le-mul-right, mul-zero}
-use borrow.Author.Tests.{ltb-true, ltb-false}
 use lib.Dec.{ltb}
+use borrow.Author.Tests.{ltb-true, ltb-false}
 use Rattle.rounding.specs.Round.{tieOf, roundedOf, nearestOf}
 
 -- ---- the one law of the rule

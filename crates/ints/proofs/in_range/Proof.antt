@@ -1,7 +1,7 @@
 -- `ints::in_range` is the test `inRange` of what it was passed. Assumes nothing.
 use mir.Facts.{toZ-ofZ}
-use Rattle.ints.specs.Range.{inRange}
 use Rattle.ints.proofs.in_range.Statement.{statement}
+use Rattle.ints.specs.Range.{inRange}
 use Rattle.ints.proofs.in_range.Tie as tie
 
 returns : tie.Need-returns

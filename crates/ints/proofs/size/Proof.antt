@@ -1,9 +1,9 @@
 -- `ints::size` is the size of its number. Below zero `!a` is one less than it, for the least number too. Assumes nothing.
 use native.Mathlib.Omega.{arith}
 use borrow.Author.Needs.{needs}
+use Rattle.ints.proofs.size.Statement.{statement}
 use Rattle.ints.specs.Order.{signed}
 use Rattle.ints.specs.Machine.{to-unsigned, not-read, flip-below}
-use Rattle.ints.proofs.size.Statement.{statement}
 use Rattle.ints.proofs.size.Tie as tie
 
 cast-result : tie.Need-cast-result

@@ -2,8 +2,8 @@
 use native.Mathlib.Omega.{arith}
 use native.Mathlib.Nat.{mod-lt, div-le-self}
 use borrow.Author.Needs.{needs}
-use Rattle.rounding.specs.Round.{nearestOf}
 use Rattle.rounding.proofs.nearest.Statement.{statement}
+use Rattle.rounding.specs.Round.{nearestOf}
 use Rattle.rounding.proofs.nearest.Tie as tie
 
 div-rounded : tie.Need-div-rounded

@@ -7,9 +7,9 @@ use mir.Facts.{toZ-ofZ}
 use borrow.Author.Needs.{needs}
 use Rattle.ints.specs.Order.{signed}
 use Rattle.ints.specs.Machine.{reads}
-use Rattle.rounding.specs.Laws.{round-below}
 use Rattle.rounding.proofs.Signs.{Parts, size-read, divisor-above, quotient-small, quotient-is}
 use Rattle.rounding.proofs.round_div.Statement.{statement}
+use Rattle.rounding.specs.Laws.{round-below}
 use Rattle.rounding.proofs.round_div.Tie as tie
 
 returns : tie.Need-returns

@@ -3,9 +3,9 @@ use Prim.Native.Nat.{_*_}
 use native.Mathlib.Omega.{arith}
 use borrow.Author.Tests.{lt-ltb, le-ltb}
 use borrow.Author.Needs.{needs}
+use Rattle.rounding.proofs.rounded.Statement.{statement}
 use Rattle.rounding.specs.Round.{roundedOf}
 use Rattle.rounding.specs.Nearest.{tie-small}
-use Rattle.rounding.proofs.rounded.Statement.{statement}
 use Rattle.rounding.proofs.rounded.Tie as tie
 
 sub-lacking : tie.Need-sub-lacking

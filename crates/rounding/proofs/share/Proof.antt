@@ -3,9 +3,9 @@ use mathlib.Core.Path.{_∙_, sym}
 use Prim.Native.Nat.{_*_}
 use native.Mathlib.Omega.{arith}
 use borrow.Author.Needs.{needs}
-use Rattle.rounding.specs.Nearest.{nearest-of}
 use Rattle.rounding.proofs.LongDivision.{steps, share-most}
 use Rattle.rounding.proofs.share.Statement.{statement}
+use Rattle.rounding.specs.Nearest.{nearest-of}
 use Rattle.rounding.proofs.share.Tie as tie
 
 mul-first : tie.Need-mul-first

@@ -7,10 +7,10 @@ use mir.Syntax.{w64}
 use mir.Facts.{toZ-pos}
 use borrow.Author.Needs.{needs}
 use Rattle.ints.specs.Machine.{tested-not}
-use Rattle.rounding.specs.Weight.{weighable}
 use Rattle.rounding.proofs.Signs.{size-read}
 use Rattle.rounding.proofs.Weights.{Weighed, not-secondary, not-primary, weighed-small, weight-none, weight-some}
 use Rattle.rounding.proofs.weight.Statement.{statement}
+use Rattle.rounding.specs.Weight.{weighable}
 use Rattle.rounding.proofs.weight.Tie as tie
 
 in-range-requires : tie.Need-in-range-requires

@@ -4,9 +4,9 @@ use native.Mathlib.Omega.{arith}
 use lib.Signed.{natAbs-le}
 use borrow.Author.Needs.{needs}
 use Rattle.ints.specs.Order.{signed}
-use Rattle.rounding.specs.Round.{withSign}
 use Rattle.rounding.proofs.Signs.{above-fits, above-is, zero-is, below-is}
 use Rattle.rounding.proofs.with_sign.Statement.{statement}
+use Rattle.rounding.specs.Round.{withSign}
 use Rattle.rounding.proofs.with_sign.Tie as tie
 
 cast-result : tie.Need-cast-result

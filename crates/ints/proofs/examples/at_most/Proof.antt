@@ -2,8 +2,8 @@
 use mir.Syntax.{w64}
 use mir.Val.{SFits}
 use borrow.Author.Needs.{needs}
-use Rattle.ints.specs.Order.{signed}
 use Rattle.ints.proofs.examples.at_most.Statement.{statement}
+use Rattle.ints.specs.Order.{signed}
 use Rattle.ints.proofs.examples.at_most.Tie as tie
 
 returns : tie.Need-returns

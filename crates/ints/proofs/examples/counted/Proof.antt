@@ -1,9 +1,9 @@
 -- An example: `to-unsigned` for a number that is not negative. Assumes nothing.
 use lib.Signed.{pos-natAbs, yes-nonNeg}
 use mir.Facts.{toZ-ofZ}
+use Rattle.ints.proofs.examples.counted.Statement.{statement}
 use Rattle.ints.specs.Order.{signed}
 use Rattle.ints.specs.Machine.{to-unsigned}
-use Rattle.ints.proofs.examples.counted.Statement.{statement}
 use Rattle.ints.proofs.examples.counted.Tie as tie
 
 cast-result : tie.Need-cast-result

@@ -1,7 +1,7 @@
 -- An example: `within-by` for what a callee requires, `b-eq` and `e-eq` for what it ensures. Assumes nothing.
+use Rattle.ints.proofs.examples.doubled.Statement.{statement}
 use Rattle.ints.specs.Bound.{bounds, b-eq, fits64, within-by}
 use Rattle.ints.specs.Exact.{exacts, e-eq, wide32, exact}
-use Rattle.ints.proofs.examples.doubled.Statement.{statement}
 use Rattle.ints.proofs.examples.doubled.Tie as tie
 
 mul-t4 : tie.Need-mul-t4

@@ -1,8 +1,8 @@
 -- An example: a call that is handed on. Assumes nothing.
 use lib.IntN.{_+ℤ_}
 use borrow.Author.Needs.{needs}
-use Rattle.ints.specs.Machine.{handed-on}
 use Rattle.ints.proofs.examples.handed.Statement.{statement}
+use Rattle.ints.specs.Machine.{handed-on}
 use Rattle.ints.proofs.examples.handed.Tie as tie
 
 sum-requires : tie.Need-sum-requires

@@ -1,11 +1,11 @@
 -- An example: the outcome of a test that a function made. Assumes nothing.
+use lib.IntN.{pos, negsuc}
 use mir.Syntax.{w64}
 use mir.Val.{SFits}
-use lib.IntN.{pos, negsuc}
 use borrow.Author.Needs.{needs}
+use Rattle.ints.proofs.examples.kept.Statement.{statement}
 use Rattle.ints.specs.Range.{inRange}
 use Rattle.ints.specs.Machine.{tested}
-use Rattle.ints.proofs.examples.kept.Statement.{statement}
 use Rattle.ints.proofs.examples.kept.Tie as tie
 
 in-range-requires : tie.Need-in-range-requires

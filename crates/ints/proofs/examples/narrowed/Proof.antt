@@ -1,7 +1,7 @@
 -- An example: `fits32` for a narrower type. Assumes nothing.
+use Rattle.ints.proofs.examples.narrowed.Statement.{statement}
 use Rattle.ints.specs.Bound.{bounds, fits32}
 use Rattle.ints.specs.Exact.{exacts, exact}
-use Rattle.ints.proofs.examples.narrowed.Statement.{statement}
 use Rattle.ints.proofs.examples.narrowed.Tie as tie
 
 cast-result : tie.Need-cast-result

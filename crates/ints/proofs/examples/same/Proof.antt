@@ -2,8 +2,8 @@
 use mir.Syntax.{w64}
 use mir.Val.{SFits}
 use borrow.Author.Needs.{needs}
-use Rattle.ints.specs.Machine.{eqZ-bits}
 use Rattle.ints.proofs.examples.same.Statement.{statement}
+use Rattle.ints.specs.Machine.{eqZ-bits}
 use Rattle.ints.proofs.examples.same.Tie as tie
 
 returns : tie.Need-returns

@@ -1,7 +1,7 @@
 -- An example: `wide32` bounds an i32 by its type. Assumes nothing.
+use Rattle.ints.proofs.examples.scaled.Statement.{statement}
 use Rattle.ints.specs.Bound.{bounds, fits64}
 use Rattle.ints.specs.Exact.{exacts, wide32, exact}
-use Rattle.ints.proofs.examples.scaled.Statement.{statement}
 use Rattle.ints.proofs.examples.scaled.Tie as tie
 
 cast-t3 : tie.Need-cast-t3

@@ -1,7 +1,7 @@
 -- An example: a sum, for `handed`. Assumes nothing.
+use Rattle.ints.proofs.examples.sum.Statement.{statement}
 use Rattle.ints.specs.Bound.{bounds, fits64}
 use Rattle.ints.specs.Exact.{exacts, exact}
-use Rattle.ints.proofs.examples.sum.Statement.{statement}
 use Rattle.ints.proofs.examples.sum.Tie as tie
 
 add-result : tie.Need-add-result

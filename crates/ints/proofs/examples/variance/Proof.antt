@@ -1,7 +1,7 @@
 -- An example: an overflow need is one line, and so is the formula. Assumes nothing.
+use Rattle.ints.proofs.examples.variance.Statement.{statement}
 use Rattle.ints.specs.Bound.{bounds, fits64}
 use Rattle.ints.specs.Exact.{exacts, exact}
-use Rattle.ints.proofs.examples.variance.Statement.{statement}
 use Rattle.ints.proofs.examples.variance.Tie as tie
 
 mul-result : tie.Need-mul-result

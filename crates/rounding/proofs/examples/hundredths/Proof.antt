@@ -2,8 +2,8 @@
 use borrow.Author.Needs.{needs}
 use Rattle.ints.specs.Bound.{bounds, b-eq, fits64}
 use Rattle.ints.specs.Exact.{exacts, e-eq, exact}
-use Rattle.rounding.specs.Laws.{rounds}
 use Rattle.rounding.proofs.examples.hundredths.Statement.{statement}
+use Rattle.rounding.specs.Laws.{rounds}
 use Rattle.rounding.proofs.examples.hundredths.Tie as tie
 
 mul-round-div : tie.Need-mul-round-div
