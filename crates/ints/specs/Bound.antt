@@ -2,17 +2,17 @@
 -- the size of z is at most that number. `fits64 (search bounds depth 30) tt` shows that a sum, a difference, a product
 -- fits an i64, from the ranges of its parts. Assumes nothing.
 use mathlib.Core.Path.{_≡_, refl}
-use mathlib.Core.Bool.{Bool, true, false, not, cond}
+use mathlib.Core.Bool.{Bool, true, false, not}
 use Prim.Native.Nat.{ℕ, zero, suc, _+_, _*_, _-_, _^_, _<_, _≤_, max}
 use native.Mathlib.Omega.{arith}
 use native.Mathlib.Nat.{le-trans, mul-le-mul, le-refl, lt-of-le-of-lt, add-le-add}
 use lib.Dec.{T, ltb, leb, ltb→lt, nltb→le, leb→le, lit≤}
-use lib.IntN.{ℤ, pos, negsuc, negℤ, natAbs, subℕ, _+ℤ_, _-ℤ_, _*ℤ_}
+use lib.IntN.{ℤ, pos, negsuc, negℤ, natAbs, _+ℤ_, _-ℤ_, _*ℤ_}
 use lib.Signed.{mag, natAbs-le}
 use mir.Syntax.{Width, w8, w16, w32, w64, w128}
 use mir.Val.{SFits, toZ, ofZ, hbits, bits, sel}
 use Rattle.ints.specs.Difference.{over, under}
-use Rattle.ints.specs.Order.{signed, of-le, minus}
+use Rattle.ints.specs.Order.{signed, sum, minus}
 use Rattle.ints.specs.Range.{Between, Within}
 
 pub record Bound (z : ℤ) : Type 0 where
@@ -32,18 +32,16 @@ abs-mul (pos a) (negsuc b) = abs-neg (pos (a * suc b))
 abs-mul (negsuc a) (pos b) = abs-neg (pos (suc a * b))
 abs-mul (negsuc a) (negsuc b) = refl
 
-abs-sub : (a b : ℕ) → natAbs (subℕ a b) ≤ a + b
-abs-sub a b = go (ltb a b) (ltb→lt a b) (nltb→le a b)
-  where
-    go : (t : Bool) → (T t → a < b) → (T (not t) → b ≤ a) → natAbs (cond t (negsuc (b - suc a)) (pos (a - b))) ≤ a + b
-    go true f g = let h = f tt in omega arith
-    go false f g = let h = g tt in omega arith
+abs-parts : (z : ℤ) → natAbs z ≡ over z + under z
+abs-parts (pos n) = omega arith
+abs-parts (negsuc n) = omega arith
+
+abs-by-parts : (z : ℤ) (a b : ℕ) → over z + b ≡ a + under z → natAbs z ≤ a + b
+abs-by-parts (pos n) a b e = omega arith
+abs-by-parts (negsuc n) a b e = omega arith
 
 pub abs-add : (x y : ℤ) → natAbs (x +ℤ y) ≤ natAbs x + natAbs y
-abs-add (pos a) (pos b) = omega arith
-abs-add (pos a) (negsuc b) = abs-sub a (suc b)
-abs-add (negsuc a) (pos b) = omega (arith, abs-sub b (suc a))
-abs-add (negsuc a) (negsuc b) = omega arith
+abs-add x y = omega (arith, abs-by-parts (x +ℤ y) (over x + over y) (under x + under y) (sum x y), abs-parts x, abs-parts y)
 
 -- reading back the bits of a number never makes it larger, whatever the width
 pub twice : (w : Width) → 2 ^ bits w ≡ 2 ^ hbits w + 2 ^ hbits w
@@ -72,10 +70,6 @@ abs-read w (pos n) = abs-bits w n n (λ h. le-refl n) (λ h. omega (arith, twice
 abs-read w (negsuc n) = abs-bits w (suc n) (2 ^ bits w - suc n) (λ h. omega (arith, twice w, some w)) (λ h. omega (arith, twice w, some w))
 
 -- ---- a range bounds a size, and a size is a range
-
-abs-parts : (z : ℤ) → natAbs z ≡ over z + under z
-abs-parts (pos n) = omega arith
-abs-parts (negsuc n) = omega arith
 
 pub between-abs : {low high : ℤ} (z : ℤ) → Between low high z → natAbs z ≤ max (natAbs low) (natAbs high)
 between-abs {low} {high} (pos n) h = omega (signed, abs-parts low, abs-parts high)

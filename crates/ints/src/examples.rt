@@ -51,6 +51,24 @@ fn counted(x: i64) -> u64
     x as u64
 }
 
+// A negation, which is a difference from 0 to the machine.
+fn negated(x: i64) -> i64
+    requires { ⌜ Within 1000000000000 x ⌝ }
+    ensures { λ r. ⌜ r ≡ negℤ x ⌝ }
+{
+    -x
+}
+
+// `<` on a number: an order.
+fn not_below_zero(x: i64) -> i64
+    ensures { λ r. ⌜ pos 0 ≤ℤ r ⌝ }
+{
+    if x < 0 {
+        return 0;
+    }
+    x
+}
+
 // `<=` on fields: an order.
 fn at_most(money: Money, limit: Money) -> Money
     ensures { λ r. ⌜ r .0 ≤ℤ limit .0 ⌝ }
@@ -61,7 +79,17 @@ fn at_most(money: Money, limit: Money) -> Money
     limit
 }
 
-// `==` on fields: it compares bits.
+// `==` on fields, as a test: equal bits are equal numbers.
+fn first_if_equal(a: Money, b: Money) -> Money
+    ensures { λ r. ⌜ r .0 ≡ b .0 ⌝ }
+{
+    if a.0 == b.0 {
+        return a;
+    }
+    b
+}
+
+// `==` on fields, as a result.
 fn same(a: Money, b: Money) -> bool
     ensures { λ r. ⌜ r ≡ eqZ (a .0) (b .0) ⌝ }
 {

@@ -16,6 +16,10 @@ pub tie-small : (whole : ℕ) → tieOf whole ≤ 1
 unfolding tieOf
 tie-small whole = omega arith
 
+-- it holds too of the rule that would send a half to the even neighbour
+even-tie-small : (whole : ℕ) → whole % 2 ≤ 1
+even-tie-small whole = omega arith
+
 -- ---- 2 |n − b × nearest| ≤ b
 
 pub record Near (n b q : ℕ) : Type 0 where
