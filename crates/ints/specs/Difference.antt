@@ -35,11 +35,11 @@ sub-parts a b = go (ltb a b) (ltb→lt a b) (nltb→le a b)
     go true f g = let h = f tt in omega arith
     go false f g = let h = g tt in omega arith
 
-pub sum-parts : (x y : ℤ) → over (x +ℤ y) + (under x + under y) ≡ over x + over y + under (x +ℤ y)
-sum-parts (pos a) (pos b) = omega arith
-sum-parts (pos a) (negsuc b) = omega (arith, sub-parts a (suc b))
-sum-parts (negsuc a) (pos b) = omega (arith, sub-parts b (suc a))
-sum-parts (negsuc a) (negsuc b) = omega arith
+pub sum : (x y : ℤ) → over (x +ℤ y) + (under x + under y) ≡ over x + over y + under (x +ℤ y)
+sum (pos a) (pos b) = omega arith
+sum (pos a) (negsuc b) = omega (arith, sub-parts a (suc b))
+sum (negsuc a) (pos b) = omega (arith, sub-parts b (suc a))
+sum (negsuc a) (negsuc b) = omega arith
 
 pub neg-over : (x : ℤ) → over (negℤ x) ≡ under x
 neg-over (pos zero) = refl
@@ -51,12 +51,12 @@ neg-under (pos zero) = refl
 neg-under (pos (suc n)) = refl
 neg-under (negsuc n) = refl
 
-pub product-parts :
+pub prod :
     (x y : ℤ) → over (x *ℤ y) + (over x * under y + under x * over y) ≡ over x * over y + under x * under y + under (x *ℤ y)
-product-parts (pos a) (pos b) = omega arith
-product-parts (pos a) (negsuc b) = omega (arith, neg-over (pos (a * suc b)), neg-under (pos (a * suc b)))
-product-parts (negsuc a) (pos b) = omega (arith, neg-over (pos (suc a * b)), neg-under (pos (suc a * b)))
-product-parts (negsuc a) (negsuc b) = omega arith
+prod (pos a) (pos b) = omega arith
+prod (pos a) (negsuc b) = omega (arith, neg-over (pos (a * suc b)), neg-under (pos (a * suc b)))
+prod (negsuc a) (pos b) = omega (arith, neg-over (pos (suc a * b)), neg-under (pos (suc a * b)))
+prod (negsuc a) (negsuc b) = omega arith
 
 -- ---- an order, by the parts
 
@@ -106,7 +106,7 @@ negsuc-⊖ n = balanced (negsuc n) (0 ⊖ suc n) (omega (arith, ⊖-parts 0 (suc
 pub ⊖-add : (a b c d : ℕ) → (a ⊖ b) +ℤ (c ⊖ d) ≡ (a + c) ⊖ (b + d)
 ⊖-add a b c d =
     balanced ((a ⊖ b) +ℤ (c ⊖ d)) ((a + c) ⊖ (b + d))
-    (omega (arith, ⊖-parts a b, ⊖-parts c d, ⊖-parts (a + c) (b + d), sum-parts (a ⊖ b) (c ⊖ d)))
+    (omega (arith, ⊖-parts a b, ⊖-parts c d, ⊖-parts (a + c) (b + d), sum (a ⊖ b) (c ⊖ d)))
 
 pub ⊖-neg : (a b : ℕ) → negℤ (a ⊖ b) ≡ b ⊖ a
 ⊖-neg a b = balanced (negℤ (a ⊖ b)) (b ⊖ a) (omega (arith, ⊖-parts a b, ⊖-parts b a, neg-over (a ⊖ b), neg-under (a ⊖ b)))
@@ -121,7 +121,7 @@ pub ⊖-mul : (a b c d : ℕ) → (a ⊖ b) *ℤ (c ⊖ d) ≡ (a * c + b * d) �
     let y = c ⊖ d in
     let crossed = cross (over x) (under x) a b (over y) (under y) c d (⊖-parts a b) (⊖-parts c d) in
     balanced (x *ℤ y) ((a * c + b * d) ⊖ (a * d + b * c))
-    (omega (arith, ⊖-parts (a * c + b * d) (a * d + b * c), product-parts x y, crossed))
+    (omega (arith, ⊖-parts (a * c + b * d) (a * d + b * c), prod x y, crossed))
 
 pub ⊖-eq : (a b c d : ℕ) → (a ⊖ b ≡ c ⊖ d) ↔ (a + d ≡ c + b)
 ⊖-eq a b c d =

@@ -4,30 +4,25 @@
 -- `prod (pos 95) x`, is linear. Assumes nothing.
 use mathlib.Core.Path.{_≡_, refl, ap}
 use mathlib.Core.Bool.{Bool, true, false}
-use Prim.Native.Nat.{_+_, _*_, _<_, _≤_}
+use Prim.Native.Nat.{_+_, _<_, _≤_}
 use native.Mathlib.Omega.{arith}
 use lib.Dec.{T-not}
-use lib.IntN.{ℤ, negℤ, _+ℤ_, _-ℤ_, _*ℤ_}
+use lib.IntN.{ℤ, negℤ, _-ℤ_}
 use lib.Signed.{leZ, ltZ, _≤ℤ_, _<ℤ_, leZ-yes, ltZ-yes, ltZ-no}
 use mir.Syntax.{Width}
 use mir.Val.{SFits, toZ, ofZ}
 use mir.Facts.{toZ-ofZ}
 use Rattle.ints.specs.Flags.{T-true, T-false, true-T, false-T}
-use Rattle.ints.specs.Difference.{over, under, sum-parts, product-parts, neg-over, neg-under, le-parts, lt-parts, parts-le, parts-lt, balanced}
+use Rattle.ints.specs.Difference.{over, under, neg-over, neg-under, le-parts, lt-parts, parts-le, parts-lt, balanced}
+pub use Rattle.ints.specs.Difference.{sum, prod}
 
--- ---- the parts of a sum, a difference, a negation, a product
-
-pub sum : (x y : ℤ) → over (x +ℤ y) + (under x + under y) ≡ over x + over y + under (x +ℤ y)
-sum = sum-parts
+-- ---- the parts of a negation and of a difference, beside those of a sum and a product
 
 pub minus : (x : ℤ) → over (negℤ x) + over x ≡ under x + under (negℤ x)
 minus x = omega (arith, neg-over x, neg-under x)
 
 pub diff : (x y : ℤ) → over (x -ℤ y) + (under x + over y) ≡ over x + under y + under (x -ℤ y)
-diff x y = omega (arith, sum-parts x (negℤ y), neg-over y, neg-under y)
-
-pub prod : (x y : ℤ) → over (x *ℤ y) + (over x * under y + under x * over y) ≡ over x * over y + under x * under y + under (x *ℤ y)
-prod = product-parts
+diff x y = omega (arith, sum x (negℤ y), neg-over y, neg-under y)
 
 -- ---- a test's outcome, as an order
 

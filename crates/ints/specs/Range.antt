@@ -15,7 +15,7 @@ pub record Between (low high z : ℤ) : Type 0 where
   pub above : low ≤ℤ z
   pub below : z ≤ℤ high
 
--- ±n
+-- ±n, with a numeral n (for any other, list `minus (pos n)` in `omega`)
 abbrev pub Within : ℕ → ℤ → Type 0
 Within n z = Between (negℤ (pos n)) (pos n) z
 

@@ -7,16 +7,14 @@ use native.Mathlib.Nat.{div-le-of-le-mul, mod-lt, div-add-mod'}
 use Rattle.rounding.specs.Round.{nearestOf}
 use Rattle.rounding.specs.Nearest.{nearest-mono, nearest-exact}
 
-pub record Steps (part whole first left second rest : ℕ) : Type 0 where
-  pub first-small : first ≤ 1000
-  pub left-small : left < whole
-  pub second-small : second ≤ 100
-  pub rest-small : rest < whole
-  pub together : 100000 * part ≡ (100 * first + second) * whole + rest
+pub record Steps (part whole : ℕ) : Type 0 where
+  pub first-small : 1000 * part / whole ≤ 1000
+  pub left-small : 1000 * part % whole < whole
+  pub second-small : 100 * (1000 * part % whole) / whole ≤ 100
+  pub rest-small : 100 * (1000 * part % whole) % whole < whole
+  pub together : 100000 * part ≡ (100 * (1000 * part / whole) + 100 * (1000 * part % whole) / whole) * whole + 100 * (1000 * part % whole) % whole
 
-pub steps :
-    (part whole : ℕ) → part ≤ whole → 0 < whole →
-    Steps part whole (1000 * part / whole) (1000 * part % whole) (100 * (1000 * part % whole) / whole) (100 * (1000 * part % whole) % whole)
+pub steps : (part whole : ℕ) → part ≤ whole → 0 < whole → Steps part whole
 steps part whole h k =
     let left = 1000 * part % whole in
     let small : left < whole = mod-lt (1000 * part) k in

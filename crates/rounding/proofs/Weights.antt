@@ -1,5 +1,5 @@
 -- The weight from the sizes of its parts: 0 where there is nothing to weigh, else a nearest whole number. Assumes nothing.
-use mathlib.Core.Path.{_≡_, _∙_, sym, ap₂}
+use mathlib.Core.Path.{_≡_, refl, _∙_, sym, ap₂}
 use mathlib.Core.Bool.{true, false}
 use Prim.Native.Nat.{ℕ, _+_, _*_, _<_, _≤_}
 use native.Mathlib.Omega.{arith}
@@ -7,7 +7,7 @@ use lib.IntN.{ℤ, pos, negsuc, natAbs}
 use lib.Signed.{_≤ℤ_}
 use Rattle.ints.specs.Order.{signed, of-le}
 use Rattle.ints.specs.Bound.{between-abs}
-use Rattle.rounding.specs.Round.{nearestOf}
+use Rattle.rounding.specs.Round.{nearestOf, round}
 use Rattle.rounding.specs.Laws.{round-by, round-below}
 use Rattle.rounding.specs.Weight.{weightOf, weighable, weightOr0, weighable-true, weighed}
 
@@ -31,23 +31,20 @@ pub weighed-small : {s p : ℤ} {m n : ℕ} → Weighed s p m n → m + n ≤ 40
 weighed-small {s} {p} w =
     omega (arith, w .part, w .other, between-abs s (weighable-true s (w .secondary)), between-abs p (weighable-true p (w .primary)))
 
-none : (s p : ℤ) → pos 0 ≤ℤ s → pos 0 ≤ℤ p → natAbs s + natAbs p ≡ 0 → weightOf s p ≡ pos 0
+as-sizes : (s p : ℤ) → pos 0 ≤ℤ s → pos 0 ≤ℤ p → weightOf s p ≡ round (pos (100000 * natAbs s)) (pos (natAbs s + natAbs p))
 unfolding weightOf
-none (pos s) (pos p) h k e = round-below (pos (100000 * s)) (pos (s + p)) (omega signed)
-none (pos s) (negsuc p) h k e = absurd (omega (signed, of-le k))
-none (negsuc s) p h k e = absurd (omega (signed, of-le h))
+as-sizes (pos s) (pos p) h k = refl
+as-sizes (pos s) (negsuc p) h k = absurd (omega (signed, of-le k))
+as-sizes (negsuc s) p h k = absurd (omega (signed, of-le h))
+
+weight-is : {s p : ℤ} {m n : ℕ} → Weighed s p m n → weightOr0 s p ≡ round (pos (100000 * m)) (pos (m + n))
+weight-is {s} {p} w =
+    weighed s p (w .secondary) (w .primary)
+    ∙ as-sizes s p (weighable-true s (w .secondary) .above) (weighable-true p (w .primary) .above)
+    ∙ sym (ap₂ (λ x y. round (pos (100000 * x)) (pos (x + y))) (w .part) (w .other))
 
 pub weight-none : {s p : ℤ} {m n : ℕ} → Weighed s p m n → m + n ≡ 0 → weightOr0 s p ≡ pos 0
-weight-none {s} {p} w e =
-    weighed s p (w .secondary) (w .primary) ∙ none s p (weighable-true s (w .secondary) .above) (weighable-true p (w .primary) .above) (omega (arith, w .part, w .other))
+weight-none {m = m} {n = n} w e = weight-is w ∙ round-below (pos (100000 * m)) (pos (m + n)) (omega signed)
 
-some : (s p : ℤ) → pos 0 ≤ℤ s → pos 0 ≤ℤ p → 0 < natAbs s + natAbs p → weightOf s p ≡ pos (nearestOf (100000 * natAbs s) (natAbs s + natAbs p))
-unfolding weightOf
-some (pos s) (pos p) h k l = round-by (pos (100000 * s)) (pos (s + p)) (omega signed)
-some (pos s) (negsuc p) h k l = absurd (omega (signed, of-le k))
-some (negsuc s) p h k l = absurd (omega (signed, of-le h))
-
-pub weight-some : {s p : ℤ} {m n : ℕ} → Weighed s p m n → 0 < m + n → pos (nearestOf (100000 * m) (m + n)) ≡ weightOr0 s p
-weight-some {s} {p} w l =
-    ap₂ (λ x y. pos (nearestOf (100000 * x) (x + y))) (w .part) (w .other)
-    ∙ sym (weighed s p (w .secondary) (w .primary) ∙ some s p (weighable-true s (w .secondary) .above) (weighable-true p (w .primary) .above) (omega (arith, w .part, w .other)))
+pub weight-some : {s p : ℤ} {m n : ℕ} → Weighed s p m n → 0 < m + n → weightOr0 s p ≡ pos (nearestOf (100000 * m) (m + n))
+weight-some {m = m} {n = n} w l = weight-is w ∙ round-by (pos (100000 * m)) (pos (m + n)) (omega signed)

@@ -3,7 +3,7 @@ use mathlib.Core.Path.{_∙_, sym}
 use Prim.Native.Nat.{_*_}
 use native.Mathlib.Omega.{arith}
 use borrow.Author.Needs.{needs}
-use Rattle.rounding.proofs.LongDivision.{steps, share-most}
+use Rattle.rounding.proofs.LongDivision.{Steps, steps, share-most}
 use Rattle.rounding.proofs.share.Statement.{statement}
 use Rattle.rounding.specs.Nearest.{nearest-of}
 use Rattle.rounding.proofs.share.Tie as tie
@@ -14,30 +14,33 @@ mul-first c = search needs
 rem-second : tie.Need-rem-second
 rem-second c = search needs
 
+divided : (c : tie.Start) → Steps (c .args .part) (c .args .whole)
+divided c = steps (c .args .part) (c .args .whole) (omega arith) (omega arith)
+
 mul-second : tie.Need-mul-second
-mul-second c = omega (arith, steps (c .args .part) (c .args .whole) (omega arith) (omega arith))
+mul-second c = omega (arith, divided c)
 
 div-rounded : tie.Need-div-rounded
 div-rounded c = search needs
 
 mul-rounded : tie.Need-mul-rounded
-mul-rounded c = omega (arith, steps (c .args .part) (c .args .whole) (omega arith) (omega arith))
+mul-rounded c = omega (arith, divided c)
 
 div-rounded-2 : tie.Need-div-rounded-2
 div-rounded-2 c = search needs
 
 add-rounded : tie.Need-add-rounded
-add-rounded c = omega (arith, steps (c .args .part) (c .args .whole) (omega arith) (omega arith))
+add-rounded c = omega (arith, divided c)
 
 rem-rounded : tie.Need-rem-rounded
 rem-rounded c = search needs
 
 rounded-requires : tie.Need-rounded-requires
-rounded-requires c κs = omega (arith, steps (c .args .part) (c .args .whole) (omega arith) (omega arith))
+rounded-requires c κs = omega (arith, divided c)
 
 returns : tie.Need-returns
 returns c = let s = c .before .args in
-    let g = steps (s .part) (s .whole) (omega arith) (omega arith) in
+    let g = divided (c .before) in
     let e = c .rounded .ensures ∙ sym (nearest-of (100000 * s .part) _ _ (s .whole) (g .together) (g .rest-small)) in
     (e, omega (arith, e, share-most (s .part) (s .whole) (omega arith) (omega arith)))
 

@@ -69,7 +69,7 @@ cast-result : tie.Need-cast-result
 cast-result c = search needs
 
 returns-4 : tie.Need-returns-4
-returns-4 c = toZ-pos w64 (omega arith) ∙ ap pos (c .share .ensures .0) ∙ weight-some (weighed (c .before .before)) (omega arith)
+returns-4 c = toZ-pos w64 (omega arith) ∙ ap pos (c .share .ensures .0) ∙ sym (weight-some (weighed (c .before .before)) (omega arith))
 
 pub weight-spec : {M : Type 1} → statement M
 weight-spec = tie.close (tie.spec in-range-requires returns in-range-requires-2 returns-2 size-requires size-requires-2 add-whole returns-3 share-requires cast-result returns-4)
