@@ -1,6 +1,7 @@
 -- `rounding::round_div` is `round`: the nearest whole number of the sizes, with the sign of the dividend. Assumes nothing.
-use mathlib.Core.Path.{_∙_, sym}
+use mathlib.Core.Path.{_∙_, sym, ap}
 use native.Mathlib.Omega.{arith}
+use lib.IntN.{natAbs}
 use lib.Signed.{natAbs-le}
 use mir.Syntax.{w64}
 use mir.Facts.{toZ-ofZ}
@@ -30,7 +31,8 @@ nearest-requires c κs = let s = c .before .before .before in
     omega (arith, parts c .dividend, natAbs-le (s .args .a) (s .fits .a .sfits), divisor-above (parts c))
 
 with-sign-requires : tie.Need-with-sign-requires
-with-sign-requires c κs = rw (toZ-ofZ (c .before .before .before .before .fits .a)) (quotient-small (parts (c .before)) (c .nearest .ensures))
+with-sign-requires c κs =
+    omega (arith, quotient-small (parts (c .before)) (c .nearest .ensures), ap natAbs (toZ-ofZ (c .before .before .before .before .fits .a)))
 
 returns-2 : tie.Need-returns-2
 returns-2 c = reads w64 (c .with-sign .result) (c .with-sign .ok)
