@@ -1,4 +1,4 @@
--- Every marked figure holds: each is computed from the definitions. Assumes nothing.
+-- Every figure of the list holds: each is computed from the definitions. Assumes nothing.
 use mathlib.Core.Path.{refl}
 use Rattle.rounding.specs.Round.{tieOf, roundedOf, nearestOf, round}
 use Rattle.figures.specs.Figures.{FiguresHold}

@@ -12,11 +12,6 @@ infix 30 _is_
 abbrev pub _is_ : ℤ → ℤ → Figure
 x is y = record { computed = x ∷ []; stated = y ∷ [] }
 
--- several numbers of one line
-infix 30 _are_
-abbrev pub _are_ : List ℤ → List ℤ → Figure
-xs are ys = record { computed = xs; stated = ys }
-
 -- over a whole list, what is computed is what the paper states
 abbrev pub AllHold : List Figure → Type 0
 AllHold figures = map (λ (f : Figure). f .computed) figures ≡ map (λ (f : Figure). f .stated) figures

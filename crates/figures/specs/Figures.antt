@@ -1,4 +1,4 @@
--- Every marked figure of document 01 in one list, in the paper's order, and the joint statement over it.
+-- The marked figures of document 01, of the layers that stand, in one list in the paper's order, and the joint statement over it.
 use mathlib.Core.List.{List}
 use Rattle.figures.specs.Figure.{Figure, AllHold}
 use Rattle.figures.specs.Rounding.{rounding}

@@ -1,4 +1,4 @@
--- The marked figures of document 01, one file a layer, and their joint statement.
+-- Marked figures of document 01, one file a layer, and their joint statement.
 pub mod Figure
 pub mod Rounding
 pub mod Figures

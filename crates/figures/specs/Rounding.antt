@@ -1,4 +1,4 @@
--- The figures of rounding.
+-- The figures of rounding: the first line that document 01 marks.
 use mathlib.Core.List.{List, [], _∷_}
 use lib.IntN.{pos, negℤ}
 use Rattle.rounding.specs.Round.{round}

@@ -1,1 +1,1 @@
-// The figures of document 01 that are marked for proof. Definitions and their proof alone: specs/Figures.antt, proofs/Figures.antt.
+// Figures that document 01 marks for proof. There is no code: specs/Figures.antt states them, proofs/Figures.antt proves them.

@@ -20,7 +20,7 @@
 --   what `==` tested                        eq-bits f g (c .if1 .taken)                             Machine     first_if_equal
 --   that `==` is a result                   eqZ-bits f g                                            Machine     same
 --   what a function tested of a number      tested p f (c .. .ensures) (c .if1 .taken)              Machine     kept
---   .. where the code tests its negation    tested-not p f (c .. .ensures) (c .if1 .left)           Machine     kept_out
+--   .. where the code tests its negation    tested-not p f (c .. .ensures) (c .if1 .left)           Machine     kept
 --   that a call is handed on                handed-on f r p q (c .. .ok) (c .. .ensures)            Machine     handed
 pub mod Flags
 pub mod Difference

@@ -96,24 +96,17 @@ fn same(a: Money, b: Money) -> bool
     a.0 == b.0
 }
 
-// What a function tested of a field, in a definition by that test.
+// What a function tested of a field, once negated and once not, in a definition by those tests.
 fn kept(money: Money) -> Money
-    ensures { λ r. ⌜ r .0 ≡ cond (inRange (negℤ (pos 100)) (pos 100) (money .0)) (money .0) (pos 0) ⌝ }
-{
-    if crate::in_range(money.0, -100, 100) {
-        return money;
-    }
-    Money(0)
-}
-
-// The same where the code tests its negation.
-fn kept_out(money: Money) -> Money
-    ensures { λ r. ⌜ r .0 ≡ cond (inRange (negℤ (pos 100)) (pos 100) (money .0)) (pos 0) (money .0) ⌝ }
+    ensures { λ r. ⌜ r .0 ≡ cond (inRange (negℤ (pos 100)) (pos 100) (money .0)) (cond (inRange (pos 0) (pos 9) (money .0)) (money .0) (pos 9)) (pos 0) ⌝ }
 {
     if !crate::in_range(money.0, -100, 100) {
+        return Money(0);
+    }
+    if crate::in_range(money.0, 0, 9) {
         return money;
     }
-    Money(0)
+    Money(9)
 }
 
 // A call of two numbers, handed on.

@@ -4,8 +4,6 @@ use mathlib.Core.Path.{_≡_}
 use Prim.Native.Nat.{ℕ, _+_, _*_, _/_, _%_, _≤_, _<_}
 use native.Mathlib.Omega.{arith}
 use native.Mathlib.Nat.{div-le-of-le-mul, mod-lt, div-add-mod'}
-use Rattle.rounding.specs.Round.{nearestOf}
-use Rattle.rounding.specs.Nearest.{nearest-mono, nearest-exact}
 
 pub record Steps (part whole : ℕ) : Type 0 where
   pub first-small : 1000 * part / whole ≤ 1000
@@ -27,7 +25,3 @@ steps part whole h k =
       rest-small = mod-lt (100 * left) k;
       together = omega arith;
     }
-
-pub share-most : (part whole : ℕ) → part ≤ whole → 0 < whole → nearestOf (100000 * part) whole ≤ 100000
-share-most part whole h k =
-    omega (arith, nearest-mono (100000 * part) (whole * 100000) whole k (omega arith), nearest-exact 100000 whole k)

@@ -9,7 +9,7 @@ use Rattle.ints.specs.Order.{signed, of-le}
 use Rattle.ints.specs.Bound.{between-abs}
 use Rattle.rounding.specs.Round.{nearestOf, round}
 use Rattle.rounding.specs.Laws.{round-by, round-below}
-use Rattle.rounding.specs.Weight.{weightOf, weighable, weightOr0, weighable-true, weighed}
+use Rattle.rounding.specs.Weight.{weightOf, weighable, weightOr0, weighable-true, weightOr0-is}
 
 pub not-secondary : (s p : ℤ) → weighable s ≡ false → weightOr0 s p ≡ pos 0
 unfolding weightOr0
@@ -39,7 +39,7 @@ as-sizes (negsuc s) p h k = absurd (omega (signed, of-le h))
 
 weight-is : {s p : ℤ} {m n : ℕ} → Weighed s p m n → weightOr0 s p ≡ round (pos (100000 * m)) (pos (m + n))
 weight-is {s} {p} w =
-    weighed s p (w .secondary) (w .primary)
+    weightOr0-is s p (w .secondary) (w .primary)
     ∙ as-sizes s p (weighable-true s (w .secondary) .above) (weighable-true p (w .primary) .above)
     ∙ sym (ap₂ (λ x y. round (pos (100000 * x)) (pos (x + y))) (w .part) (w .other))
 

@@ -1,4 +1,4 @@
--- The laws of round(a/b) that the books cite. None names how a half goes: all follow from `nearest-near` and from going by sign.
+-- Laws of round(a/b), for the books. None names how a half goes: all follow from `nearest-near` and from going by sign.
 -- Assumes nothing.
 use mathlib.Core.Path.{_≡_, refl, sym, _∙_, ap, ap₂}
 use mathlib.Core.Bool.{true, false, _&&_}

@@ -16,10 +16,6 @@ pub tie-small : (whole : ℕ) → tieOf whole ≤ 1
 unfolding tieOf
 tie-small whole = omega arith
 
--- it holds too of the rule that would send a half to the even neighbour
-even-tie-small : (whole : ℕ) → whole % 2 ≤ 1
-even-tie-small whole = omega arith
-
 -- ---- 2 |n − b × nearest| ≤ b
 
 pub record Near (n b q : ℕ) : Type 0 where
@@ -66,6 +62,11 @@ nearest-zero b h = rw mul-zero at (nearest-exact 0 b h)
 
 pub nearest-small : (n b : ℕ) → 0 < b → nearestOf n b ≤ n
 nearest-small n b h = omega (arith, nearest-mono n (b * n) b h (omega (arith, mul-le-mul-right n h)), nearest-exact n b h)
+
+-- k times a part of a whole, over the whole, is at most k
+pub nearest-part : (k part whole : ℕ) → part ≤ whole → 0 < whole → nearestOf (k * part) whole ≤ k
+nearest-part k part whole h l =
+    omega (arith, nearest-mono (k * part) (whole * k) whole l (omega (arith, mul-le-mul-left k h)), nearest-exact k whole l)
 
 -- at most one more than the quotient of a larger number
 pub nearest-by : (n m b : ℕ) → 0 < b → n ≤ m → nearestOf n b ≤ m / b + 1

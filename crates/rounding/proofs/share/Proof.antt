@@ -3,9 +3,9 @@ use mathlib.Core.Path.{_∙_, sym}
 use Prim.Native.Nat.{_*_}
 use native.Mathlib.Omega.{arith}
 use borrow.Author.Needs.{needs}
-use Rattle.rounding.proofs.LongDivision.{Steps, steps, share-most}
+use Rattle.rounding.proofs.LongDivision.{Steps, steps}
 use Rattle.rounding.proofs.share.Statement.{statement}
-use Rattle.rounding.specs.Nearest.{nearest-of}
+use Rattle.rounding.specs.Nearest.{nearest-of, nearest-part}
 use Rattle.rounding.proofs.share.Tie as tie
 
 mul-first : tie.Need-mul-first
@@ -42,7 +42,7 @@ returns : tie.Need-returns
 returns c = let s = c .before .args in
     let g = divided (c .before) in
     let e = c .rounded .ensures ∙ sym (nearest-of (100000 * s .part) _ _ (s .whole) (g .together) (g .rest-small)) in
-    (e, omega (arith, e, share-most (s .part) (s .whole) (omega arith) (omega arith)))
+    (e, omega (arith, e, nearest-part 100000 (s .part) (s .whole) (omega arith) (omega arith)))
 
 pub share-spec : {M : Type 1} → statement M
 share-spec = tie.close (tie.spec mul-first rem-second mul-second div-rounded mul-rounded div-rounded-2 add-rounded rem-rounded rounded-requires returns)
