@@ -21,6 +21,7 @@
 --   that `==` is a result                   eqZ-bits f g                                            Machine     same
 --   what a function tested of a number      tested p f (c .. .ensures) (c .if1 .taken)              Machine     kept
 --   .. where the code tests its negation    tested-not p f (c .. .ensures) (c .if1 .left)           Machine     kept
+--   that `size` gave a number's size        size-read (c .fits .x) (c .size .ensures)                Machine     amounts::text::write
 --   that a call is handed on                handed-on f r p q (c .. .ok) (c .. .ensures)            Machine     handed
 pub mod Flags
 pub mod Difference
@@ -30,4 +31,5 @@ pub mod Range
 pub mod Bound
 pub mod Exact
 pub mod Machine
+pub mod Digits
 pub mod Examples

@@ -2,7 +2,7 @@
 -- a cast to an unsigned type, `!`. (`<` and `<=` reach a proof as `<ℤ` and `≤ℤ`, which `omega signed` reads.) Assumes nothing.
 use mathlib.Core.Path.{_≡_, refl, sym, _∙_, ap, ap₂}
 use mathlib.Core.Bool.{Bool, true, false, not}
-use Prim.Native.Nat.{_+_, _-_, _^_, _≤_, _<_}
+use Prim.Native.Nat.{ℕ, _+_, _-_, _^_, _≤_, _<_}
 use native.Mathlib.Omega.{arith}
 use lib.Dec.{T, eqb, ltb}
 use lib.IntN.{ℤ, pos, negsuc, natAbs}
@@ -24,6 +24,14 @@ reads w z h = toZ-ofZ {w = w} {z = z} (record { sfits = h })
 -- a call handed on: its result is f of the two numbers that were passed
 pub handed-on : {w : Width} {x y : ℤ} (f : ℤ → ℤ → ℤ) (r : ℤ) → SFits w x → SFits w y → mag r < 2 ^ hbits w → r ≡ f (toZ w (ofZ w x)) (toZ w (ofZ w y)) → toZ w (ofZ w r) ≡ f x y
 handed-on {w} f r p q h e = reads w r h ∙ e ∙ ap₂ f (toZ-ofZ p) (toZ-ofZ q)
+
+-- what `size` gave of a number, and the most that it can be
+pub size-read : {w : Width} {r : ℕ} {z : ℤ} → SFits w z → r ≡ natAbs (toZ w (ofZ w z)) → r ≡ natAbs z
+size-read f e = e ∙ ap natAbs (toZ-ofZ f)
+
+pub size-most : {w : Width} {z : ℤ} → SFits w z → natAbs z ≤ 2 ^ hbits w
+size-most {w} {z = pos n} f = omega (arith, f .sfits)
+size-most {w} {z = negsuc n} f = f .sfits
 
 -- a test p of what was read, made by a function that ensures `r ≡ p x`, had the outcome v: so has p of the number itself
 pub tested : {w : Width} {z : ℤ} {r v : Bool} (p : ℤ → Bool) → SFits w z → r ≡ p (toZ w (ofZ w z)) → r ≡ v → p z ≡ v

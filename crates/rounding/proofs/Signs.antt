@@ -6,8 +6,8 @@ use native.Mathlib.Omega.{arith}
 use lib.IntN.{ℤ, pos, negsuc, negℤ, natAbs}
 use lib.Signed.{_≤ℤ_, _<ℤ_}
 use mir.Syntax.{w64}
-use mir.Val.{SFits, toZ, ofZ}
-use mir.Facts.{toZ-ofZ, toZ-pos}
+use mir.Val.{SFits, toZ}
+use mir.Facts.{toZ-pos}
 use Rattle.ints.specs.Order.{signed, of-le, of-lt}
 use Rattle.ints.specs.Machine.{not-read}
 use Rattle.rounding.specs.Round.{nearestOf, withSign, round}
@@ -37,10 +37,6 @@ below-is (pos a) n h k l = absurd (omega (signed, of-lt h))
 below-is (negsuc a) n h k l = not-read {w = w64} {z = pos (n - 1)} (omega arith) ∙ one-less n k
 
 -- ---- a rounded quotient from the sizes of its parts
-
--- what `ints::size` ensures of a number that the machine read
-pub size-read : {r : ℕ} {a : ℤ} → SFits w64 a → r ≡ natAbs (toZ w64 (ofZ w64 a)) → r ≡ natAbs a
-size-read f e = e ∙ ap natAbs (toZ-ofZ f)
 
 pub record Parts (a b : ℤ) (r s : ℕ) : Type 0 where
   pub dividend : r ≡ natAbs a

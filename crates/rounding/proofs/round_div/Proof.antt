@@ -7,8 +7,8 @@ use mir.Syntax.{w64}
 use mir.Facts.{toZ-ofZ}
 use borrow.Author.Needs.{needs}
 use Rattle.ints.specs.Order.{signed}
-use Rattle.ints.specs.Machine.{reads}
-use Rattle.rounding.proofs.Signs.{Parts, size-read, divisor-above, quotient-small, quotient-is}
+use Rattle.ints.specs.Machine.{reads, size-read}
+use Rattle.rounding.proofs.Signs.{Parts, divisor-above, quotient-small, quotient-is}
 use Rattle.rounding.proofs.round_div.Statement.{statement}
 use Rattle.rounding.specs.Laws.{round-below}
 use Rattle.rounding.proofs.round_div.Tie as tie

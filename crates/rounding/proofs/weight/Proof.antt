@@ -6,8 +6,7 @@ use lib.IntN.{pos}
 use mir.Syntax.{w64}
 use mir.Facts.{toZ-pos}
 use borrow.Author.Needs.{needs}
-use Rattle.ints.specs.Machine.{tested-not}
-use Rattle.rounding.proofs.Signs.{size-read}
+use Rattle.ints.specs.Machine.{size-read, tested-not}
 use Rattle.rounding.proofs.Weights.{Weighed, not-secondary, not-primary, weighed-small, weight-none, weight-some}
 use Rattle.rounding.proofs.weight.Statement.{statement}
 use Rattle.rounding.specs.Weight.{weighable}
