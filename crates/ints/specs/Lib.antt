@@ -18,6 +18,7 @@
 --   that a cast to an unsigned type fits    to-unsigned (c .fits .x) (omega signed) tt              Machine     counted
 --   what `<`, `<=` tested                   omega signed, of fields with their SFits at hand        Order       not_below_zero, at_most
 --   what `==` tested                        eq-bits f g (c .if1 .taken)                             Machine     first_if_equal
+--   .. of a number and 0                    eq-bits f zero64 (c .if1 .taken)                         Machine     postings::fields::put_field
 --   that `==` is a result                   eqZ-bits f g                                            Machine     same
 --   what a function tested of a number      tested p f (c .. .ensures) (c .if1 .taken)              Machine     kept
 --   .. where the code tests its negation    tested-not p f (c .. .ensures) (c .if1 .left)           Machine     kept

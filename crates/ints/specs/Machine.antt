@@ -4,10 +4,10 @@ use mathlib.Core.Path.{_≡_, refl, sym, _∙_, ap, ap₂}
 use mathlib.Core.Bool.{Bool, true, false, not}
 use Prim.Native.Nat.{ℕ, _+_, _-_, _^_, _≤_, _<_}
 use native.Mathlib.Omega.{arith}
-use lib.Dec.{T, eqb, ltb}
+use lib.Dec.{T, eqb, ltb, lit<}
 use lib.IntN.{ℤ, pos, negsuc, natAbs}
 use lib.Signed.{mag, nonNeg, yes-nonNeg, _≤ℤ_, _<ℤ_}
-use mir.Syntax.{Width}
+use mir.Syntax.{Width, w64}
 use mir.Val.{SFits, Fits, toZ, ofZ, bits, hbits}
 use mir.Facts.{toZ-ofZ, toZ-pos, toZ-neg, fits-natAbs}
 use borrow.Author.Tests.{eqb-true, eqb-false, eq-eqb}
@@ -75,6 +75,10 @@ eqZ-bits {w} {x} {y} f g = go (eqb (ofZ w x) (ofZ w y)) refl
     go : (t : Bool) → eqb (ofZ w x) (ofZ w y) ≡ t → eqb (ofZ w x) (ofZ w y) ≡ eqZ x y
     go true e = e ∙ sym (ap (eqZ x) (sym (eq-bits f g (eqb-true (ofZ w x) (ofZ w y) e))) ∙ eqZ-refl x)
     go false e = e ∙ sym (eqZ-false x y (λ k. eqb-false (ofZ w x) (ofZ w y) e (ap (ofZ w) k)))
+
+-- for `== 0`
+pub zero64 : SFits w64 (pos 0)
+zero64 = record { sfits = lit< tt }
 
 -- ---- a number that is not negative, cast to an unsigned type
 

@@ -1,15 +1,14 @@
 -- What a writer into a lent buffer answers, and what it leaves there (01, Refusals in order of checking, 13; Text).
-use mathlib.Core.Path.{_≡_, refl, ap, _∙_}
-use mathlib.Core.Bool.{Bool, false}
+use mathlib.Core.Path.{_≡_, sym, ap, _∙_}
+use mathlib.Core.Bool.{Bool}
 use mathlib.Core.List.{List, [], _∷_, _++_}
 use Prim.Native.Nat.{ℕ, _<_, _≤_}
-use native.Mathlib.Omega.{arith}
-use lib.Dec.{eqb, ltb}
+use lib.Dec.{ltb}
 use lib.IntN.{ℤ, pos}
 use lib.ListN.{length, drop}
 use lib.Seq.{sets}
-use borrow.Author.Tests.{ne-eqb}
 use Rattle.refusals.specs.Rows.{Row, refusalBy, byTable}
+use Rattle.refusals.specs.Laws.{gives-asked, gives-refusal}
 use Rattle.refusals.specs.Stores.{sets-front}
 use Rattle.refusals.specs.declared.Written.{Written}
 use Rattle.refusals.specs.declared.Written.the-variants.{Bytes, Refused}
@@ -38,11 +37,11 @@ writtenValues (Refused n) = []
 -- ---- laws: what code has to show of its answer and of the buffer that it leaves
 
 pub writer-refuses : (rows : List Row) (bytes buffer : List ℕ) (n : ℕ) → 0 < n → refusalBy rows ≡ n → (Refused n ≡ writtenBy rows bytes) × (buffer ≡ leftBy rows bytes buffer)
-unfolding byTable
 writer-refuses rows bytes buffer n h e =
-    let t : eqb n 0 ≡ false = ne-eqb n 0 (λ z. omega arith) in
-    simp (e, t) (refl, refl)
+    (sym (gives-refusal rows (Bytes (length bytes)) Refused n h e), sym (gives-refusal rows (bytes ++ drop (length bytes) buffer) (λ (m : ℕ). buffer) n h e))
 
 pub writer-accepts : (rows : List Row) (bytes buffer after : List ℕ) (n : ℕ) → refusalBy rows ≡ 0 → length bytes ≤ length buffer → n ≡ length bytes → after ≡ sets buffer 0 bytes → (Bytes n ≡ writtenBy rows bytes) × (after ≡ leftBy rows bytes buffer)
-unfolding byTable
-writer-accepts rows bytes buffer after n e h l s = simp e (ap Bytes l, s ∙ sets-front buffer bytes h)
+writer-accepts rows bytes buffer after n e h l s = (
+  ap Bytes l ∙ sym (gives-asked rows (Bytes (length bytes)) Refused e),
+  s ∙ sets-front buffer bytes h ∙ sym (gives-asked rows (bytes ++ drop (length bytes) buffer) (λ (m : ℕ). buffer) e),
+)

@@ -1,0 +1,105 @@
+-- The code's table of bit maps is that of kinds and fields, at every kind of both books, and what its entries tell. Assumes nothing.
+use mathlib.Core.Path.{_≡_, refl, sym, ap, _∙_}
+use mathlib.Core.Bool.{Bool, true, false, cond}
+use mathlib.Core.List.{List, [], _∷_}
+use Prim.Native.Nat.{ℕ, _^_, _<_, _≤_}
+use native.Mathlib.Omega.{arith}
+use native.Mathlib.Nat.{one-le-pow}
+use lib.Dec.{eqb, leb, eqb→eq, leb→le, lit<}
+use lib.ListN.{length, getD}
+use borrow.Author.Tests.{ne-eqb, le-leb, lt-leb, leb-true, leb-false}
+use Rattle.ints.specs.Flags.{all-below}
+use Rattle.postings.proofs.BitMaps.{beyond}
+use Rattle.postings.specs.Kinds.{fieldsOf, unknownKind, standsBeyond}
+use Rattle.postings.specs.Records.{bitMapOf}
+use Rattle.postings.specs.Steps.{mapsOf}
+use Rattle.postings.specs.declared.Book.{Book}
+use Rattle.postings.specs.declared.Book.the-variants.{Electric, Steam}
+
+-- past the table no kind is known
+pub unknown-past : (book : Book) (kind : ℕ) → 8 ≤ kind → unknownKind book kind ≡ true
+unfolding unknownKind
+unknown-past book kind h = go book
+  where
+    other : (n : ℕ) → n < 8 → eqb kind n ≡ false
+    other n l = ne-eqb kind n (λ e. omega arith)
+
+    go : (b : Book) → unknownKind b kind ≡ true
+    go Electric = simp (other 1 (lit< tt), other 2 (lit< tt), other 3 (lit< tt), other 4 (lit< tt), other 5 (lit< tt), other 6 (lit< tt))
+    go Steam =
+        simp
+        (other 1 (lit< tt), other 2 (lit< tt), other 3 (lit< tt), other 4 (lit< tt), other 5 (lit< tt), other 6 (lit< tt), other 7 (lit< tt))
+
+pub maps-past : (book : Book) (kind : ℕ) → 8 ≤ kind → 0 ≡ mapsOf book kind
+unfolding mapsOf
+maps-past book kind h = sym (ap (λ (t : Bool). cond t 0 (2 ^ length (fieldsOf book kind))) (unknown-past book kind h))
+
+-- the entries, each compared with its kind's
+abbrev electric : List ℕ
+electric = 0 ∷ 8 ∷ 4 ∷ 4 ∷ 4 ∷ 2 ∷ 4 ∷ 0 ∷ []
+
+abbrev steam : List ℕ
+steam = 0 ∷ 2 ∷ 2 ∷ 2 ∷ 2 ∷ 1 ∷ 4 ∷ 4 ∷ []
+
+pub electric-maps : (kind : ℕ) → kind < 8 → getD electric kind 0 ≡ mapsOf Electric kind
+unfolding mapsOf unknownKind fieldsOf
+electric-maps kind h = eqb→eq _ _ (all-below 8 (λ (k : ℕ). eqb (getD electric k 0) (mapsOf Electric k)) tt kind h)
+
+pub steam-maps : (kind : ℕ) → kind < 8 → getD steam kind 0 ≡ mapsOf Steam kind
+unfolding mapsOf unknownKind fieldsOf
+steam-maps kind h = eqb→eq _ _ (all-below 8 (λ (k : ℕ). eqb (getD steam k 0) (mapsOf Steam k)) tt kind h)
+
+maps-few : (book : Book) (kind : ℕ) → kind < 8 → mapsOf book kind ≤ 8
+unfolding mapsOf unknownKind fieldsOf
+maps-few Electric kind h = leb→le _ _ (all-below 8 (λ (k : ℕ). leb (mapsOf Electric k) 8) tt kind h)
+maps-few Steam kind h = leb→le _ _ (all-below 8 (λ (k : ℕ). leb (mapsOf Steam k) 8) tt kind h)
+
+-- ---- what the number of bit maps tells
+
+module _ (book : Book) (kind : ℕ) where
+  pub maps-none : mapsOf book kind ≡ 0 → unknownKind book kind ≡ true
+  unfolding mapsOf
+  maps-none e = go (unknownKind book kind) refl
+    where
+      go : (t : Bool) → unknownKind book kind ≡ t → unknownKind book kind ≡ true
+      go true u = u
+      go false u =
+          let p : 2 ^ length (fieldsOf book kind) ≡ 0 = sym (ap (λ (t : Bool). cond t 0 (2 ^ length (fieldsOf book kind))) u) ∙ e in
+          absurd (omega (arith, one-le-pow (length (fieldsOf book kind)) 2 (lit< tt)))
+
+  pub maps-some : 0 < mapsOf book kind → unknownKind book kind ≡ false
+  unfolding mapsOf
+  maps-some h = go (unknownKind book kind) refl
+    where
+      go : (t : Bool) → unknownKind book kind ≡ t → unknownKind book kind ≡ false
+      go true u =
+          let z : 0 ≡ mapsOf book kind = sym (ap (λ (t : Bool). cond t 0 (2 ^ length (fieldsOf book kind))) u) in
+          absurd (omega arith)
+      go false u = u
+
+  pub maps-are : unknownKind book kind ≡ false → mapsOf book kind ≡ 2 ^ length (fieldsOf book kind)
+  unfolding mapsOf
+  maps-are u = ap (λ (t : Bool). cond t 0 (2 ^ length (fieldsOf book kind))) u
+
+  -- no kind has more than three fields
+  pub maps-most : mapsOf book kind ≤ 8
+  maps-most = go (leb 8 kind) refl
+    where
+      go : (t : Bool) → leb 8 kind ≡ t → mapsOf book kind ≤ 8
+      go true e = omega (arith, maps-past book kind (leb-true 8 kind e))
+      go false e = maps-few book kind (leb-false 8 kind e)
+
+  -- a bit that the kind lacks makes a map too large
+  module _ (bits : List Bool) (known : unknownKind book kind ≡ false) where
+    lacks : standsBeyond (fieldsOf book kind) bits ≡ leb (mapsOf book kind) (bitMapOf bits)
+    unfolding standsBeyond
+    lacks = beyond (length (fieldsOf book kind)) bits ∙ ap (λ (n : ℕ). leb n (bitMapOf bits)) (sym (maps-are known))
+
+    pub stands-beyond : mapsOf book kind ≤ bitMapOf bits → standsBeyond (fieldsOf book kind) bits ≡ true
+    stands-beyond h = lacks ∙ le-leb (mapsOf book kind) (bitMapOf bits) h
+
+    pub none-beyond : bitMapOf bits < mapsOf book kind → standsBeyond (fieldsOf book kind) bits ≡ false
+    none-beyond h = lacks ∙ lt-leb (mapsOf book kind) (bitMapOf bits) h
+
+    pub small-map : standsBeyond (fieldsOf book kind) bits ≡ false → bitMapOf bits < mapsOf book kind
+    small-map e = leb-false (mapsOf book kind) (bitMapOf bits) (sym lacks ∙ e)

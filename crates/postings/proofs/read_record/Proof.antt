@@ -1,0 +1,82 @@
+-- `postings::read_record` is what reading at the place gives, row by row. Assumes nothing.
+use mathlib.Core.Path.{sym, _∙_}
+use Prim.Native.Nat.{_+_, _<_, _≤_}
+use native.Mathlib.Omega.{arith}
+use lib.ListN.{length, drop, length-drop}
+use denote.Ref.{now}
+use borrow.Author.Needs.{needs}
+use Rattle.postings.proofs.Reading.{refused₁, refused₂, refused₃, refused₄, fields-are, kindAt, mapAt}
+use Rattle.postings.proofs.KindTable.{maps-most}
+use Rattle.postings.proofs.read_record.Statement.{statement}
+use Rattle.postings.specs.Records.{recordLength}
+use Rattle.postings.specs.Steps.{mapsOf}
+use Rattle.postings.proofs.read_record.Tie as tie
+
+remaining-requires : tie.Need-remaining-requires
+remaining-requires c κs = search needs
+
+returns : tie.Need-returns
+returns c = refused₁ _ _ _ (omega (arith, c .before .remaining .ensures))
+
+some : (c : tie.Else1) → 2 ≤ length (drop (c .before .before .before .args .place) (now (c .before .before .before .args .bytes)))
+some c = omega (arith, c .before .remaining .ensures)
+
+shared-slice-read-kind : tie.Need-shared-slice-read-kind
+shared-slice-read-kind c = omega (arith, some (c .before), length-drop (c .before .before .before .before .args .place) (now (c .before .before .before .before .args .bytes)))
+
+add-bitmap : tie.Need-add-bitmap
+add-bitmap c = omega (arith, some (c .before), length-drop (c .before .before .before .before .args .place) (now (c .before .before .before .before .args .bytes)))
+
+shared-slice-read-bitmap : tie.Need-shared-slice-read-bitmap
+shared-slice-read-bitmap c = omega (arith, some (c .before .before), length-drop (c .before .before .before .before .before .args .place) (now (c .before .before .before .before .before .args .bytes)))
+
+maps-of-requires : tie.Need-maps-of-requires
+maps-of-requires c κs = search needs
+
+returns-2 : tie.Need-returns-2
+returns-2 c = refused₂ _ _ _ (some (c .before .before .before .before)) (sym (c .before .maps-of .ensures) ∙ c .if2 .taken)
+
+has : (c : tie.Else2) → 0 < mapsOf (c .before .before .before .before .before .before .before .args .book) (kindAt (now (c .before .before .before .before .before .before .before .args .bytes)) (c .before .before .before .before .before .before .before .args .place))
+has c = omega (arith, c .before .maps-of .ensures, c .if2 .left)
+
+byte : (c : tie.Else2) → mapAt (now (c .before .before .before .before .before .before .before .args .bytes)) (c .before .before .before .before .before .before .before .args .place) < 256
+byte c = omega (arith, c .before .before .before .before .before .before .shared-slice-known .given (c .before .before .before .before .before .before .before .args .place + 1))
+
+returns-3 : tie.Need-returns-3
+returns-3 c = refused₃ _ _ _ (some (c .before .before .before .before .before)) (has (c .before)) (byte (c .before)) (omega (arith, c .before .before .maps-of .ensures))
+
+record-length-requires : tie.Need-record-length-requires
+record-length-requires c κs = search needs
+
+few : (c : tie.Else3) → mapAt (now (c .before .before .before .before .before .before .before .before .args .bytes)) (c .before .before .before .before .before .before .before .before .args .place) < mapsOf (c .before .before .before .before .before .before .before .before .args .book) (kindAt (now (c .before .before .before .before .before .before .before .before .args .bytes)) (c .before .before .before .before .before .before .before .before .args .place))
+few c = omega (arith, c .before .before .maps-of .ensures)
+
+returns-4 : tie.Need-returns-4
+returns-4 c = refused₄ _ _ _ (some (c .before .before .before .before .before .before .before)) (has (c .before .before .before)) (byte (c .before .before .before)) (few (c .before .before)) (omega (arith, c .before .record-length .ensures, c .before .before .before .before .before .before .before .before .remaining .ensures))
+
+whole : (c : tie.Else4) → recordLength (mapAt (now (c .before .before .before .before .before .before .before .before .before .before .args .bytes)) (c .before .before .before .before .before .before .before .before .before .before .args .place)) ≤ length (drop (c .before .before .before .before .before .before .before .before .before .before .args .place) (now (c .before .before .before .before .before .before .before .before .before .before .args .bytes)))
+whole c = omega (arith, c .before .record-length .ensures, c .before .before .before .before .before .before .before .before .remaining .ensures)
+
+read-fields-requires : tie.Need-read-fields-requires
+read-fields-requires c κs = let s = c .before .before .before .before .before .before .before .before .before .before in
+    (omega (arith, few (c .before .before), maps-most (s .args .book) (kindAt (now (s .args .bytes)) (s .args .place))), omega (arith, whole c, some (c .before .before .before .before .before .before .before), length-drop (s .args .place) (now (s .args .bytes))))
+
+returns-5 : tie.Need-returns-5
+returns-5 c = c .read-fields .ensures ∙ fields-are _ _ _ (some (c .before .before .before .before .before .before .before .before)) (has (c .before .before .before .before)) (byte (c .before .before .before .before)) (few (c .before .before .before)) (whole (c .before))
+
+pub read-record-spec : {M : Type 1} → statement M
+read-record-spec =
+    tie.close
+    (tie.spec
+    remaining-requires
+    returns
+    shared-slice-read-kind
+    add-bitmap
+    shared-slice-read-bitmap
+    maps-of-requires
+    returns-2
+    returns-3
+    record-length-requires
+    returns-4
+    read-fields-requires
+    returns-5)

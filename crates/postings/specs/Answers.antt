@@ -1,0 +1,2 @@
+-- Document 01's number and values for each case of an answer (01, Where each language form goes). The number of one that is no refusal
+-- is 0.

@@ -1,0 +1,102 @@
+-- Posting records (01, Posting records, Refusals in order of checking): what reading at a place gives, and what writing a posting.
+use mathlib.Core.Bool.{Bool, true, false, cond, _||_}
+use mathlib.Core.List.{List, [], _∷_, _++_}
+use Prim.Native.Nat.{ℕ, zero, suc, _+_, _*_, _/_, _%_}
+use lib.Count.{ones}
+use lib.Dec.{eqb, ltb}
+use lib.IntN.{ℤ, pos}
+use lib.ListN.{length, getD, drop}
+use Rattle.ints.specs.Machine.{eqZ}
+use Rattle.refusals.specs.Rows.{Row, row, byTable}
+use Rattle.refusals.specs.Writer.{tooShort, writtenBy, leftBy}
+use Rattle.refusals.specs.declared.Written.{Written}
+use Rattle.postings.specs.Kinds.{fieldsOf, unknownKind, numbersOf, standing, standsBeyond}
+use Rattle.postings.specs.Fields.{fieldOf, bytesOf}
+use Rattle.postings.specs.declared.Book.{Book}
+use Rattle.postings.specs.declared.Posting.{Posting}
+use Rattle.postings.specs.declared.Read.{Read}
+use Rattle.postings.specs.declared.Read.the-variants.{Found, Refused}
+
+-- the record's length is 2 + 8 × the standing bits
+unfoldable pub recordLength : ℕ → ℕ
+recordLength bitMap = 2 + 8 * ones bitMap
+
+-- ---- reading, of the bytes that remain from a place on
+
+abbrev pub kindIn : List ℕ → ℕ
+kindIn bytes = getD bytes 0 0
+
+abbrev pub bitMapIn : List ℕ → ℕ
+bitMapIn bytes = getD bytes 1 0
+
+-- the bits of a number, from the lowest
+unfoldable pub bitsFrom : ℕ → ℕ → List Bool
+bitsFrom zero n = []
+bitsFrom (suc count) n = eqb (n % 2) 1 ∷ bitsFrom count (n / 2)
+
+-- for each standing bit from the lowest a field; an absent field is 0
+unfoldable pub fieldsAt : List Bool → List ℕ → List ℤ
+fieldsAt [] bytes = []
+fieldsAt (true ∷ bits) bytes = fieldOf bytes ∷ fieldsAt bits (drop 8 bytes)
+fieldsAt (false ∷ bits) bytes = pos 0 ∷ fieldsAt bits bytes
+
+-- the three numbers of the posting
+abbrev pub numbersIn : List ℕ → List ℤ
+numbersIn bytes = fieldsAt (bitsFrom 3 (bitMapIn bytes)) (drop 2 bytes)
+
+-- 5: a field present is 0
+unfoldable pub zeroPresent : List Bool → List ℤ → Bool
+zeroPresent [] numbers = false
+zeroPresent (bit ∷ bits) [] = false
+zeroPresent (true ∷ bits) (z ∷ numbers) = eqZ z (pos 0) || zeroPresent bits numbers
+zeroPresent (false ∷ bits) (z ∷ numbers) = zeroPresent bits numbers
+
+abbrev pub readingRows : Book → List ℕ → List Row
+readingRows book bytes =
+    row 1 (ltb (length bytes) 2)
+    ∷ row 2 (unknownKind book (kindIn bytes))
+    ∷ row 3 (standsBeyond (fieldsOf book (kindIn bytes)) (bitsFrom 8 (bitMapIn bytes)))
+    ∷ row 4 (ltb (length bytes) (recordLength (bitMapIn bytes)))
+    ∷ row 5 (zeroPresent (bitsFrom 3 (bitMapIn bytes)) (numbersIn bytes))
+    ∷ []
+
+abbrev pub postingOf : ℕ → List ℤ → Posting
+postingOf kind numbers =
+    record { kind = kind; first = getD numbers 0 (pos 0); second = getD numbers 1 (pos 0); third = getD numbers 2 (pos 0) }
+
+-- the posting at a place and the next place, or the refusal and the place
+unfoldable pub readOf : Book → List ℕ → ℕ → Read
+readOf book bytes place =
+    let rest = drop place bytes in
+    byTable (readingRows book rest)
+    (Found (postingOf (kindIn rest) (numbersIn rest)) (place + recordLength (bitMapIn rest)))
+    (λ (n : ℕ). Refused n place)
+
+-- ---- writing
+
+-- the bit map byte, from the lowest bit
+unfoldable pub bitMapOf : List Bool → ℕ
+bitMapOf [] = 0
+bitMapOf (bit ∷ bits) = cond bit 1 0 + 2 * bitMapOf bits
+
+unfoldable pub fieldBytes : List ℤ → List ℕ
+fieldBytes [] = []
+fieldBytes (z ∷ numbers) = bytesOf z ++ fieldBytes numbers
+
+-- kind, bit map, fields
+unfoldable pub recordOf : Posting → List ℕ
+recordOf p = (p .kind) ∷ bitMapOf (standing (numbersOf p)) ∷ fieldBytes (numbersOf p)
+
+abbrev pub writingRows : Book → Posting → List ℕ → List Row
+writingRows book p buffer =
+    row 2 (unknownKind book (p .kind))
+    ∷ row 3 (standsBeyond (fieldsOf book (p .kind)) (standing (numbersOf p)))
+    ∷ row 13 (tooShort (recordOf p) buffer)
+    ∷ []
+
+-- what the record writer answers, and what it leaves in the buffer
+unfoldable pub recordWritten : Book → Posting → List ℕ → Written
+recordWritten book p buffer = writtenBy (writingRows book p buffer) (recordOf p)
+
+unfoldable pub recordLeft : Book → Posting → List ℕ → List ℕ
+recordLeft book p buffer = leftBy (writingRows book p buffer) (recordOf p) buffer
