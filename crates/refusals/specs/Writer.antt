@@ -1,14 +1,13 @@
 -- What a writer into a lent buffer answers, and what it leaves there (01, Refusals in order of checking, 13; Text).
-use mathlib.Core.Path.{_≡_, sym, ap, _∙_}
+use mathlib.Core.Path.{_≡_, refl, sym, ap, _∙_}
 use mathlib.Core.Bool.{Bool}
 use mathlib.Core.List.{List, [], _∷_, _++_}
 use Prim.Native.Nat.{ℕ, _<_, _≤_}
 use lib.Dec.{ltb}
-use lib.IntN.{ℤ, pos}
 use lib.ListN.{length, drop}
 use lib.Seq.{sets}
 use Rattle.refusals.specs.Rows.{Row, refusalBy, byTable}
-use Rattle.refusals.specs.Laws.{gives-asked, gives-refusal}
+use Rattle.refusals.specs.Laws.{gives-asked, gives-refusal, gives-number}
 use Rattle.refusals.specs.Stores.{sets-front}
 use Rattle.refusals.specs.declared.Written.{Written}
 use Rattle.refusals.specs.declared.Written.the-variants.{Bytes, Refused}
@@ -25,14 +24,14 @@ writtenBy rows bytes = byTable rows (Bytes (length bytes)) Refused
 abbrev pub leftBy : List Row → List ℕ → List ℕ → List ℕ
 leftBy rows bytes buffer = byTable rows (bytes ++ drop (length bytes) buffer) (λ (n : ℕ). buffer)
 
--- document 01's number of an answer, 0 for one that is no refusal, and its values
+-- document 01's number of each case, 0 for no refusal, and its value: how many bytes were written
 abbrev pub writtenNumber : Written → ℕ
 writtenNumber (Bytes count) = 0
 writtenNumber (Refused n) = n
 
-abbrev pub writtenValues : Written → List ℤ
-writtenValues (Bytes count) = pos count ∷ []
-writtenValues (Refused n) = []
+abbrev pub writtenLength : Written → ℕ
+writtenLength (Bytes count) = count
+writtenLength (Refused n) = 0
 
 -- ---- laws: what code has to show of its answer and of the buffer that it leaves
 
@@ -45,3 +44,6 @@ writer-accepts rows bytes buffer after n e h l s = (
   ap Bytes l ∙ sym (gives-asked rows (Bytes (length bytes)) Refused e),
   s ∙ sets-front buffer bytes h ∙ sym (gives-asked rows (bytes ++ drop (length bytes) buffer) (λ (m : ℕ). buffer) e),
 )
+
+pub written-number : (rows : List Row) (bytes : List ℕ) → writtenNumber (writtenBy rows bytes) ≡ refusalBy rows
+written-number rows bytes = gives-number rows (Bytes (length bytes)) Refused writtenNumber refl (λ n. refl)

@@ -1,0 +1,22 @@
+-- `host::neapscroll_write_points` hands the text writer's answer on. Assumes nothing.
+use mathlib.Core.Path.{ap, _∙_}
+use borrow.Author.Needs.{needs}
+use Rattle.host.proofs.neapscroll_write_points.Statement.{statement}
+use Rattle.host.specs.Replies.{writingOf}
+use Rattle.host.proofs.neapscroll_write_points.Tie as tie
+
+write-requires : tie.Need-write-requires
+write-requires c κs = search needs
+
+writing-of-requires : tie.Need-writing-of-requires
+writing-of-requires c κs = search needs
+
+same-length : tie.Need-same-length
+same-length c = search needs
+
+returns : tie.Need-returns
+returns c = (c .writing-of .ensures ∙ ap writingOf (c .before .before .before .write .ensures .0), c .before .before .before .write .ensures .1)
+
+pub neapscroll-write-points-spec : {M : Type 1} → statement M
+neapscroll-write-points-spec =
+    tie.close (tie.spec write-requires writing-of-requires same-length returns)
