@@ -1,9 +1,39 @@
 //! The proved functions of the static library, as safe functions.
 
+use crate::records::{Book, Posting, Read};
+use crate::written::Written;
+
 mod exported {
+    use crate::records::Posting;
+
+    /// Number 0: the posting was found, and the place is the next one.
+    #[repr(C)]
+    pub struct Reading {
+        pub number: u8,
+        pub place: usize,
+        pub posting: Posting,
+    }
+
+    /// Number 0: so many bytes were written.
+    #[repr(C)]
+    pub struct Writing {
+        pub number: u8,
+        pub length: usize,
+    }
+
     extern "C" {
         pub fn neapscroll_round_div(a: i64, b: i64) -> i64;
         pub fn neapscroll_weight(secondary: i64, primary: i64) -> i64;
+        pub fn neapscroll_write_cents(cents: i64, buffer: *mut u8, length: usize) -> Writing;
+        pub fn neapscroll_write_points(points: i32, buffer: *mut u8, length: usize) -> Writing;
+        pub fn neapscroll_read_electric(bytes: *const u8, length: usize, place: usize) -> Reading;
+        pub fn neapscroll_read_steam(bytes: *const u8, length: usize, place: usize) -> Reading;
+        pub fn neapscroll_write_electric(
+            posting: Posting,
+            buffer: *mut u8,
+            length: usize,
+        ) -> Writing;
+        pub fn neapscroll_write_steam(posting: Posting, buffer: *mut u8, length: usize) -> Writing;
     }
 }
 
@@ -19,4 +49,90 @@ pub fn round_div(a: i64, b: i64) -> i64 {
 pub fn weight(secondary: i64, primary: i64) -> i64 {
     // SAFETY: the function is total on 64-bit numbers and touches no memory of its caller.
     unsafe { exported::neapscroll_weight(secondary, primary) }
+}
+
+/// The text of cents, as proved.
+#[inline]
+pub fn write_cents(cents: i64, buffer: &mut [u8]) -> Written {
+    // SAFETY: the function touches no memory of its caller but the buffer of that length.
+    written(unsafe { exported::neapscroll_write_cents(cents, buffer.as_mut_ptr(), buffer.len()) })
+}
+
+/// The text of points, as proved.
+#[inline]
+pub fn write_points(points: i32, buffer: &mut [u8]) -> Written {
+    // SAFETY: the function touches no memory of its caller but the buffer of that length.
+    written(unsafe { exported::neapscroll_write_points(points, buffer.as_mut_ptr(), buffer.len()) })
+}
+
+/// The posting whose record is at the place, as proved.
+#[inline]
+pub fn read_record(book: Book, bytes: &[u8], place: usize) -> Read {
+    let function = match book {
+        Book::Electric => exported::neapscroll_read_electric,
+        Book::Steam => exported::neapscroll_read_steam,
+    };
+    // SAFETY: the function is total on places and only reads the bytes of that length.
+    read(unsafe { function(bytes.as_ptr(), bytes.len(), place) })
+}
+
+/// The record of the posting, as proved.
+#[inline]
+pub fn write_record(book: Book, posting: Posting, buffer: &mut [u8]) -> Written {
+    let function = match book {
+        Book::Electric => exported::neapscroll_write_electric,
+        Book::Steam => exported::neapscroll_write_steam,
+    };
+    // SAFETY: the function touches no memory of its caller but the buffer of that length.
+    written(unsafe { function(posting, buffer.as_mut_ptr(), buffer.len()) })
+}
+
+#[inline]
+fn read(reading: exported::Reading) -> Read {
+    if reading.number != 0 {
+        return refused_reading(reading);
+    }
+    // Number by number, since a copy of the whole would wait for the stores that it is made of.
+    let Posting {
+        kind,
+        numbers: [first, second, third],
+    } = reading.posting;
+    Read::Found {
+        posting: Posting {
+            kind,
+            numbers: [first, second, third],
+        },
+        next: reading.place,
+    }
+}
+
+#[inline]
+fn written(writing: exported::Writing) -> Written {
+    match writing.number {
+        0 => Written::Length(writing.length),
+        _ => refused_writing(writing),
+    }
+}
+
+// All of a refusal is checked here: the benchmark meets none, so the check takes none of its time.
+
+#[cold]
+fn refused_reading(reading: exported::Reading) -> Read {
+    let number = reading.number.into();
+    let nothing = Posting {
+        kind: 0,
+        numbers: [0; 3],
+    };
+    assert_eq!(reading.posting, nothing, "proved refusal {number}");
+    Read::Refused {
+        number,
+        place: reading.place,
+    }
+}
+
+#[cold]
+fn refused_writing(writing: exported::Writing) -> Written {
+    let number = writing.number.into();
+    assert_eq!(writing.length, 0, "proved refusal {number}");
+    Written::Refused(number)
 }

@@ -30,9 +30,21 @@ impl Random {
         low.wrapping_add_unsigned(offset as u64)
     }
 
+    /// A number from 0, below the count.
+    pub fn below(&mut self, count: usize) -> usize {
+        let last = i64::try_from(count).expect("a count is small") - 1;
+        self.within(0, last) as usize
+    }
+
     pub fn one_of<T: Copy>(&mut self, choices: &[T]) -> T {
-        let last = i64::try_from(choices.len()).expect("a list is short") - 1;
-        choices[self.within(0, last) as usize]
+        choices[self.below(choices.len())]
+    }
+
+    pub fn fill(&mut self, bytes: &mut [u8]) {
+        for part in bytes.chunks_mut(8) {
+            let random_bytes = self.bits().to_le_bytes();
+            part.copy_from_slice(&random_bytes[..part.len()]);
+        }
     }
 
     /// A number of at most 0 to 63 bits, every limit as likely.
@@ -120,5 +132,19 @@ mod tests {
         let met: Vec<i64> = (0..10_000).map(|_| random.up_to(9)).collect();
         assert!((0..=9).all(|number| met.contains(&number)));
         assert!(met.iter().all(|number| (0..=9).contains(number)));
+    }
+
+    #[test]
+    fn every_byte_is_filled_with_every_value() {
+        let mut random = Random::new(6);
+        let mut met = [[false; 256]; 11];
+        for _ in 0..10_000 {
+            let mut bytes = [0; 11];
+            random.fill(&mut bytes);
+            for (met, byte) in met.iter_mut().zip(bytes) {
+                met[usize::from(byte)] = true;
+            }
+        }
+        assert!(met.as_flattened().iter().all(|&met| met));
     }
 }

@@ -1,0 +1,534 @@
+//! Compares the proved reader and writer of posting records with the twin's.
+
+#![forbid(unsafe_code)]
+
+mod common;
+
+use common::{seeded, write_around, Answers, ToWrite};
+use twin::random::Random;
+use twin::records::{Book, Posting, Read};
+use twin::written::{Refusal, Written, BUFFER_TOO_SHORT};
+use twin::{proved, records};
+
+const RANDOM_CASES: usize = 1_000_000;
+
+const BOOKS: [Book; 2] = [Book::Electric, Book::Steam];
+
+/// The fields of a kind by the paper's table, bit 0 first.
+fn fields(book: Book, kind: u8) -> Option<&'static [&'static str]> {
+    Some(match (book, kind) {
+        (Book::Electric, 1) => &["F", "P", "E"],
+        (Book::Electric, 2) => &["secondary", "primary"],
+        (Book::Electric, 3) => &["level", "u"],
+        (Book::Electric, 4) => &["Rs", "Rp"],
+        (Book::Electric, 5) => &["r"],
+        (Book::Electric, 6) => &["level", "amount"],
+        (Book::Steam, 1) => &["cost"],
+        (Book::Steam, 2) => &["sales"],
+        (Book::Steam, 3) => &["u"],
+        (Book::Steam, 4) => &["b"],
+        (Book::Steam, 5) => &[],
+        (Book::Steam, 6) => &["n", "g"],
+        (Book::Steam, 7) => &["months", "D"],
+        _ => return None,
+    })
+}
+
+/// The kinds that the book has.
+fn kinds(book: Book) -> &'static [u8] {
+    match book {
+        Book::Electric => &[1, 2, 3, 4, 5, 6],
+        Book::Steam => &[1, 2, 3, 4, 5, 6, 7],
+    }
+}
+
+/// The record of a posting, byte by byte.
+fn record_of(posting: &Posting) -> Vec<u8> {
+    let mut record = vec![posting.kind, 0];
+    for (bit, &number) in posting.numbers.iter().enumerate() {
+        if number != 0 {
+            record[1] += [1, 2, 4][bit];
+            record.extend((0..8).map(|byte| (number >> (56 - 8 * byte)) as u8));
+        }
+    }
+    record
+}
+
+/// A field's number: its bytes as digits, the highest first, less 2^64 from 2^63 on.
+fn number_of(field: &[u8]) -> i64 {
+    let digits = field.iter().map(|&byte| i128::from(byte));
+    let magnitude = digits.fold(0, |number, byte| 256 * number + byte);
+    let sign_limit = 1_i128 << 63;
+    let number = if magnitude < sign_limit {
+        magnitude
+    } else {
+        magnitude - 2 * sign_limit
+    };
+    i64::try_from(number).expect("a field has 64 bits")
+}
+
+/// What the paper wants of a reading, refusal after refusal.
+fn expected_read(book: Book, bytes: &[u8], place: usize) -> Read {
+    let refused = |number| Read::Refused { number, place };
+    let rest = &bytes[place.min(bytes.len())..];
+    if rest.len() < 2 {
+        return refused(1);
+    }
+    let (kind, bit_map) = (rest[0], u32::from(rest[1]));
+    let Some(fields) = fields(book, kind) else {
+        return refused(2);
+    };
+    let stands = |bit: usize| bit_map / 2_u32.pow(bit as u32) % 2 == 1;
+    if (fields.len()..8).any(stands) {
+        return refused(3);
+    }
+    let standing: Vec<usize> = (0..fields.len()).filter(|&bit| stands(bit)).collect();
+    let length = 2 + 8 * standing.len();
+    if rest.len() < length {
+        return refused(4);
+    }
+    let mut numbers = [0; 3];
+    for (index, &bit) in standing.iter().enumerate() {
+        numbers[bit] = number_of(&rest[2 + 8 * index..10 + 8 * index]);
+    }
+    if standing.iter().any(|&bit| numbers[bit] == 0) {
+        return refused(5);
+    }
+    let posting = Posting { kind, numbers };
+    Read::Found {
+        posting,
+        next: place + length,
+    }
+}
+
+/// A posting to be written for a book.
+#[derive(Clone, Copy, Debug)]
+struct Entry {
+    book: Book,
+    posting: Posting,
+}
+
+impl ToWrite for Entry {
+    fn write_proved(&self, buffer: &mut [u8]) -> Written {
+        proved::write_record(self.book, self.posting, buffer)
+    }
+
+    fn write_twin(&self, buffer: &mut [u8]) -> Written {
+        records::write_record(self.book, self.posting, buffer)
+    }
+
+    fn expected(&self) -> Result<Vec<u8>, Refusal> {
+        let Some(fields) = fields(self.book, self.posting.kind) else {
+            return Err(2);
+        };
+        let lacked = &self.posting.numbers[fields.len()..];
+        if lacked.iter().any(|&number| number != 0) {
+            return Err(3);
+        }
+        Ok(record_of(&self.posting))
+    }
+}
+
+/// Readings on both sides, and how often each answer was met: 0 is "found".
+struct Readings {
+    met: [[usize; 6]; 2],
+    origin: String,
+}
+
+impl Readings {
+    fn new(origin: String) -> Self {
+        Self {
+            met: [[0; 6]; 2],
+            origin,
+        }
+    }
+
+    /// Both sides, which must agree, be as expected, and write back the record that they find.
+    fn read(&mut self, book: Book, bytes: &[u8], place: usize) -> Read {
+        let origin = &self.origin;
+        let proved = proved::read_record(book, bytes, place);
+        let twin = records::read_record(book, bytes, place);
+        assert_eq!(
+            proved, twin,
+            "proved and twin {book:?} at {place} of {bytes:02x?}, {origin}"
+        );
+        let expected = expected_read(book, bytes, place);
+        assert_eq!(
+            twin, expected,
+            "{book:?} at {place} of {bytes:02x?} and expected, {origin}"
+        );
+        let number = match twin {
+            Read::Found { posting, next } => {
+                write_back(Entry { book, posting }, &bytes[place..next], origin);
+                0
+            }
+            Read::Refused { number, .. } => number,
+        };
+        self.met[book as usize][number] += 1;
+        twin
+    }
+
+    /// As above, with an answer known from how the bytes were made.
+    fn expect(&mut self, expected: Read, book: Book, bytes: &[u8], place: usize) {
+        let met = self.read(book, bytes, place);
+        let origin = &self.origin;
+        assert_eq!(
+            met, expected,
+            "{book:?} at {place} of {bytes:02x?} and known, {origin}"
+        );
+    }
+
+    /// Holds each of the answers to have been met at least so often for either book.
+    fn met_at_least(&self, least: usize, answers: &[usize]) {
+        for (book, met) in BOOKS.iter().zip(&self.met) {
+            for &answer in answers {
+                let count = met[answer];
+                assert!(
+                    count >= least,
+                    "answer {answer} of {book:?} met {count} times"
+                );
+            }
+        }
+    }
+}
+
+/// Both sides write the record again.
+fn write_back(entry: Entry, record: &[u8], origin: &str) {
+    let (mut proved_buffer, mut twin_buffer) = ([0; 26], [0; 26]);
+    let proved = entry.write_proved(&mut proved_buffer);
+    let twin = entry.write_twin(&mut twin_buffer);
+    let right = Written::Length(record.len());
+    assert_eq!(
+        (proved, twin),
+        (right, right),
+        "{entry:?} written back, {origin}"
+    );
+    for buffer in [proved_buffer, twin_buffer] {
+        assert_eq!(
+            &buffer[..record.len()],
+            record,
+            "{entry:?} written back, {origin}"
+        );
+    }
+}
+
+/// A number that is not 0: small or large, of either sign, at an end, or with one byte alone.
+fn nonzero(random: &mut Random) -> i64 {
+    match random.below(8) {
+        0 => random.one_of(&[1, -1, i64::MIN, i64::MAX]),
+        1 => random.within(1, 255) << (8 * random.below(8)),
+        _ => match random.signed_of_any_length() {
+            0 => -256,
+            number => number,
+        },
+    }
+}
+
+/// A posting that has a record, each of its fields 0 or not.
+fn posting_of(book: Book, random: &mut Random) -> Posting {
+    let kind = random.one_of(kinds(book));
+    let count = fields(book, kind).map_or(0, <[_]>::len);
+    let mut numbers = [0; 3];
+    for number in &mut numbers[..count] {
+        if random.coin() {
+            *number = nonzero(random);
+        }
+    }
+    Posting { kind, numbers }
+}
+
+fn random_bytes(random: &mut Random, most: usize) -> Vec<u8> {
+    let mut bytes = vec![0; random.below(most + 1)];
+    random.fill(&mut bytes);
+    bytes
+}
+
+#[test]
+fn records_of_the_paper_are_read() {
+    let mut readings = Readings::new("the paper's journal".to_string());
+    let journal = [
+        0x00, 0x01, 0x01, 0, 0, 0, 0, 0, 0x1e, 0x84, 0x80, 0x03, 0x02, 0, 0, 0, 0, 0, 0, 0x03,
+        0xe8, 0x04, 0x03, 0, 0, 0, 0, 0, 0, 0, 0x01, 0, 0, 0, 0, 0, 0, 0, 0x01,
+    ];
+    let postings = [(1, [2_000_000, 0, 0]), (3, [0, 1_000, 0]), (4, [1, 1, 0])];
+    let mut place = 1;
+    for ((kind, numbers), next) in postings.into_iter().zip([11, 21, 39]) {
+        let posting = Posting { kind, numbers };
+        let found = Read::Found { posting, next };
+        readings.expect(found, Book::Electric, &journal, place);
+        place = next;
+    }
+    let end = Read::Refused { number: 1, place };
+    readings.expect(end, Book::Electric, &journal, place);
+}
+
+/// A record of any kind and bit map with fields that are not 0, and at least a byte after it.
+fn any_record(kind: u8, bit_map: u8, random: &mut Random) -> Vec<u8> {
+    let mut bytes = vec![kind, bit_map];
+    for _ in 0..8 {
+        bytes.extend(nonzero(random).to_be_bytes());
+    }
+    bytes.push(random.bits() as u8);
+    bytes
+}
+
+#[test]
+fn readings_of_every_kind_and_bit_map_agree() {
+    let (mut random, origin) = seeded(1);
+    let mut readings = Readings::new(origin);
+    for (kind, bit_map) in (0..=u16::MAX).map(|pair| pair.to_be_bytes().into()) {
+        let bytes = any_record(kind, bit_map, &mut random);
+        let right = 2 + 8 * bit_map.count_ones() as usize;
+        let mut with_zero = bytes.clone();
+        let zero_field = 2 + 8 * random.below(bit_map.count_ones().max(1) as usize);
+        with_zero[zero_field..zero_field + 8].fill(0);
+        for book in BOOKS {
+            // The whole record is in memory past the end of a cut one, for a reader that goes there.
+            for length in [0, 1, 2, 3, right - 1, right, right + 1, bytes.len()] {
+                readings.read(book, &bytes[..length], 0);
+                readings.read(book, &with_zero[..length], 0);
+            }
+        }
+    }
+    readings.met_at_least(1_000, &[1, 2, 3]);
+    readings.met_at_least(10, &[0, 4, 5]);
+}
+
+#[test]
+fn written_postings_are_read_back() {
+    let (mut random, origin) = seeded(2);
+    let mut readings = Readings::new(origin.clone());
+    for case in 0..500_000 {
+        let book = BOOKS[case % 2];
+        let posting = posting_of(book, &mut random);
+        let entry = Entry { book, posting };
+        let mut before = [0; 64];
+        random.fill(&mut before);
+        let place = random.below(30);
+        for side in [Entry::write_proved, Entry::write_twin] {
+            let mut bytes = before;
+            let Written::Length(length) = side(&entry, &mut bytes[place..]) else {
+                panic!("{entry:?} is not written, {origin}");
+            };
+            let next = place + length;
+            let found = Read::Found { posting, next };
+            // With bytes after the record, and without.
+            for end in [bytes.len(), next] {
+                readings.expect(found, book, &bytes[..end], place);
+            }
+        }
+    }
+    readings.met_at_least(1_000_000, &[0]);
+}
+
+/// A run of records, and the place of each of them and of their end.
+fn run_of_records(book: Book, random: &mut Random) -> (Vec<u8>, Vec<usize>) {
+    let mut bytes = random_bytes(random, 3);
+    let mut places = vec![bytes.len()];
+    for _ in 0..=random.below(6) {
+        bytes.extend(record_of(&posting_of(book, random)));
+        places.push(bytes.len());
+    }
+    (bytes, places)
+}
+
+/// Reads one record after the other until a refusal, and gives the number and how many were found.
+fn walk(readings: &mut Readings, book: Book, bytes: &[u8], mut place: usize) -> (Refusal, usize) {
+    let mut found = 0;
+    loop {
+        match readings.read(book, bytes, place) {
+            Read::Found { next, .. } => place = next,
+            Read::Refused { number, .. } => return (number, found),
+        }
+        found += 1;
+    }
+}
+
+#[test]
+fn runs_of_records_are_read_whole() {
+    let (mut random, origin) = seeded(3);
+    let mut readings = Readings::new(origin.clone());
+    for case in 0..100_000 {
+        let book = BOOKS[case % 2];
+        let (bytes, places) = run_of_records(book, &mut random);
+        let met = walk(&mut readings, book, &bytes, places[0]);
+        let whole = (1, places.len() - 1);
+        assert_eq!(met, whole, "{book:?} run {bytes:02x?}, {origin}");
+    }
+    readings.met_at_least(1_000, &[0, 1]);
+}
+
+#[test]
+fn readings_of_damaged_bytes_agree() {
+    let (mut random, origin) = seeded(4);
+    let mut readings = Readings::new(origin);
+    for case in 0..200_000 {
+        let book = BOOKS[case % 2];
+        let (mut bytes, places) = run_of_records(book, &mut random);
+        let record = random.below(places.len() - 1);
+        let (start, end) = (places[record], places[record + 1]);
+        // Half of the hits are in the head, since the fields are longer.
+        let length = if random.coin() { 2 } else { end - start };
+        let hit = start + random.below(length);
+        // A change of one bit may leave a record that is nearly right.
+        let change = if random.coin() {
+            1 << random.below(8)
+        } else {
+            random.within(1, 255)
+        };
+        bytes[hit] ^= change as u8;
+        walk(&mut readings, book, &bytes, places[0]);
+        readings.read(book, &bytes, start);
+    }
+    readings.met_at_least(1_000, &[0, 1, 2, 3, 4]);
+}
+
+#[test]
+fn readings_of_cut_records_agree() {
+    let (mut random, origin) = seeded(5);
+    let mut readings = Readings::new(origin);
+    for case in 0..20_000 {
+        let book = BOOKS[case % 2];
+        let mut bytes = random_bytes(&mut random, 9);
+        let place = bytes.len();
+        bytes.extend(record_of(&posting_of(book, &mut random)));
+        for end in 0..=bytes.len() {
+            readings.read(book, &bytes[..end], place);
+        }
+        readings.read(book, &bytes[place..], 0);
+    }
+    readings.met_at_least(1_000, &[0, 1, 4]);
+}
+
+#[test]
+fn readings_of_fields_of_zero_agree() {
+    let (mut random, origin) = seeded(6);
+    let mut readings = Readings::new(origin);
+    for case in 0..200_000 {
+        let book = BOOKS[case % 2];
+        let mut bytes = random_bytes(&mut random, 9);
+        let place = bytes.len();
+        bytes.extend(record_of(&posting_of(book, &mut random)));
+        let count = (bytes.len() - place) / 8;
+        if count == 0 {
+            continue;
+        }
+        let zero_field = place + 2 + 8 * random.below(count);
+        bytes[zero_field..zero_field + 8].fill(0);
+        let cut = zero_field + random.below(bytes.len() - zero_field);
+        bytes.extend(random_bytes(&mut random, 9));
+        let zero = Read::Refused { number: 5, place };
+        readings.expect(zero, book, &bytes, place);
+        // A record both cut and with a zero is cut.
+        let cut_short = Read::Refused { number: 4, place };
+        readings.expect(cut_short, book, &bytes[..cut], place);
+    }
+    readings.met_at_least(10_000, &[4, 5]);
+}
+
+/// Bytes of any kind, most with a head that could be a record's.
+fn bytes_like_a_record(book: Book, random: &mut Random) -> Vec<u8> {
+    let mut bytes = random_bytes(random, 40);
+    let likely = [random.one_of(kinds(book)), random.below(9) as u8];
+    let replaced = random.below(4).min(2).min(bytes.len());
+    bytes[..replaced].copy_from_slice(&likely[..replaced]);
+    if random.coin() {
+        let zeros = random.below(bytes.len() + 1);
+        bytes[zeros..].fill(0);
+    }
+    bytes
+}
+
+#[test]
+fn readings_of_random_bytes_agree() {
+    let (mut random, origin) = seeded(7);
+    let mut readings = Readings::new(origin);
+    for case in 0..RANDOM_CASES {
+        let book = BOOKS[case % 2];
+        let bytes = bytes_like_a_record(book, &mut random);
+        readings.read(book, &bytes, 0);
+        readings.read(book, &bytes, random.below(bytes.len() + 3));
+    }
+    readings.met_at_least(1_000, &[0, 1, 2, 3, 4, 5]);
+}
+
+#[test]
+fn readings_at_every_place_agree() {
+    let (mut random, origin) = seeded(8);
+    let mut readings = Readings::new(origin);
+    for case in 0..4_000 {
+        let book = BOOKS[case % 2];
+        let (mut bytes, _) = run_of_records(book, &mut random);
+        bytes.truncate(random.below(bytes.len() + 1));
+        for offset in 0..bytes.len() + 30 {
+            readings.read(book, &bytes, offset);
+            // Places that are small again if they are narrowed or if a sum with them goes round.
+            for far in [1 << 32, 1 << 63, usize::MAX - 30, usize::MAX - bytes.len()] {
+                let place = far.saturating_add(offset);
+                let past = Read::Refused { number: 1, place };
+                readings.expect(past, book, &bytes, place);
+            }
+        }
+    }
+    readings.met_at_least(1_000, &[0, 1, 2, 3, 4]);
+}
+
+#[test]
+fn nothing_is_read_of_no_bytes() {
+    let mut readings = Readings::new("no bytes".to_string());
+    for place in [0, 1, 2, 3, 8, 1 << 32, usize::MAX - 1, usize::MAX] {
+        for book in BOOKS {
+            let refused = Read::Refused { number: 1, place };
+            readings.expect(refused, book, &[], place);
+        }
+    }
+}
+
+/// Holds a writer to its four answers, each met at least so often for either book.
+fn writer_met(met: &[Answers; 2], least: usize) {
+    for (book, answers) in BOOKS.iter().zip(met) {
+        for (answer, &count) in answers.iter().enumerate() {
+            let enough = match [0, 2, 3, BUFFER_TOO_SHORT].contains(&answer) {
+                true => count >= least,
+                false => count == 0,
+            };
+            assert!(enough, "answer {answer} of {book:?} met {count} times");
+        }
+    }
+}
+
+#[test]
+fn writings_of_every_kind_and_pattern_agree() {
+    let (mut random, origin) = seeded(9);
+    let mut met = [Answers::default(); 2];
+    for _ in 0..20 {
+        for (kind, pattern) in (0..=255).flat_map(|kind| (0..8).map(move |bits| (kind, bits))) {
+            let present = [0, 1, 2].map(|bit| pattern >> bit & 1);
+            let numbers = present.map(|bit| bit * nonzero(&mut random));
+            let posting = Posting { kind, numbers };
+            for book in BOOKS {
+                let entry = Entry { book, posting };
+                write_around(&entry, &mut random, &mut met[book as usize], &origin);
+            }
+        }
+    }
+    writer_met(&met, 1_000);
+}
+
+#[test]
+fn writings_of_random_postings_agree() {
+    let (mut random, origin) = seeded(10);
+    let mut met = [Answers::default(); 2];
+    for case in 0..RANDOM_CASES {
+        let book = BOOKS[case % 2];
+        let mut posting = posting_of(book, &mut random);
+        match random.below(8) {
+            0 => posting.kind = random.bits() as u8,
+            1 => posting.numbers[random.below(3)] = nonzero(&mut random),
+            _ => {}
+        }
+        let entry = Entry { book, posting };
+        write_around(&entry, &mut random, &mut met[book as usize], &origin);
+    }
+    writer_met(&met, 10_000);
+}
