@@ -1,14 +1,14 @@
--- The code's table of bit maps is that of kinds and fields, at every kind of both books, and what its entries tell. Assumes nothing.
-use mathlib.Core.Path.{_≡_, refl, sym, ap, _∙_}
-use mathlib.Core.Bool.{Bool, true, false, cond}
-use mathlib.Core.List.{List, [], _∷_}
+-- How many bit maps a kind of either book may have, and what that number tells. Assumes nothing.
+use mathlib.Core.Path.{_≡_, refl, sym, ap, _∙_, subst}
+use mathlib.Core.Bool.{Bool, true, false, cond, _||_}
+use mathlib.Core.List.{List}
 use Prim.Native.Nat.{ℕ, _^_, _<_, _≤_}
 use native.Mathlib.Omega.{arith}
 use native.Mathlib.Nat.{one-le-pow}
-use lib.Dec.{eqb, leb, eqb→eq, leb→le, lit<}
-use lib.ListN.{length, getD}
-use borrow.Author.Tests.{ne-eqb, le-leb, lt-leb, leb-true, leb-false}
-use Rattle.ints.specs.Flags.{all-below}
+use lib.Dec.{T, eqb, ltb, leb, eqb→eq, leb→le, lit<}
+use lib.ListN.{length}
+use borrow.Author.Tests.{ne-eqb, le-ltb, le-leb, lt-leb, leb-true, leb-false}
+use Rattle.ints.specs.Flags.{allBelow, all-below}
 use Rattle.postings.proofs.BitMaps.{beyond}
 use Rattle.postings.specs.Kinds.{fieldsOf, unknownKind, standsBeyond}
 use Rattle.postings.specs.Records.{bitMapOf}
@@ -17,7 +17,7 @@ use Rattle.postings.specs.declared.Book.{Book}
 use Rattle.postings.specs.declared.Book.the-variants.{Electric, Steam}
 
 -- past the table no kind is known
-pub unknown-past : (book : Book) (kind : ℕ) → 8 ≤ kind → unknownKind book kind ≡ true
+unknown-past : (book : Book) (kind : ℕ) → 8 ≤ kind → unknownKind book kind ≡ true
 unfolding unknownKind
 unknown-past book kind h = go book
   where
@@ -30,24 +30,26 @@ unknown-past book kind h = go book
         simp
         (other 1 (lit< tt), other 2 (lit< tt), other 3 (lit< tt), other 4 (lit< tt), other 5 (lit< tt), other 6 (lit< tt), other 7 (lit< tt))
 
-pub maps-past : (book : Book) (kind : ℕ) → 8 ≤ kind → 0 ≡ mapsOf book kind
+maps-past : (book : Book) (kind : ℕ) → 8 ≤ kind → 0 ≡ mapsOf book kind
 unfolding mapsOf
 maps-past book kind h = sym (ap (λ (t : Bool). cond t 0 (2 ^ length (fieldsOf book kind))) (unknown-past book kind h))
 
--- the entries, each compared with its kind's
-abbrev electric : List ℕ
-electric = 0 ∷ 8 ∷ 4 ∷ 4 ∷ 4 ∷ 2 ∷ 4 ∷ 0 ∷ []
+-- the kinds from low to high have so many maps: the test computes, over the table's eight kinds
+pub maps-between : (book : Book) (low high maps kind : ℕ) → T (allBelow 8 (λ (k : ℕ). ltb k low || (ltb high k || eqb maps (mapsOf book k)))) → low ≤ kind → kind ≤ high → high < 8 → maps ≡ mapsOf book kind
+maps-between book low high maps kind t l h e =
+    let k : kind < 8 = omega arith in
+    let p = all-below 8 (λ (k : ℕ). ltb k low || (ltb high k || eqb maps (mapsOf book k))) t kind k in
+    eqb→eq maps (mapsOf book kind) (subst (λ (b : Bool). T (b || eqb maps (mapsOf book kind))) (le-ltb high kind h) (subst (λ (b : Bool). T (b || (ltb high kind || eqb maps (mapsOf book kind)))) (le-ltb kind low l) p))
 
-abbrev steam : List ℕ
-steam = 0 ∷ 2 ∷ 2 ∷ 2 ∷ 2 ∷ 1 ∷ 4 ∷ 4 ∷ []
-
-pub electric-maps : (kind : ℕ) → kind < 8 → getD electric kind 0 ≡ mapsOf Electric kind
-unfolding mapsOf unknownKind fieldsOf
-electric-maps kind h = eqb→eq _ _ (all-below 8 (λ (k : ℕ). eqb (getD electric k 0) (mapsOf Electric k)) tt kind h)
-
-pub steam-maps : (kind : ℕ) → kind < 8 → getD steam kind 0 ≡ mapsOf Steam kind
-unfolding mapsOf unknownKind fieldsOf
-steam-maps kind h = eqb→eq _ _ (all-below 8 (λ (k : ℕ). eqb (getD steam k 0) (mapsOf Steam k)) tt kind h)
+-- the kinds from low on are none of the book's
+pub maps-above : (book : Book) (low kind : ℕ) → T (allBelow 8 (λ (k : ℕ). ltb k low || (ltb 7 k || eqb 0 (mapsOf book k)))) → low ≤ kind → 0 ≡ mapsOf book kind
+maps-above book low kind t l = go (leb 8 kind) refl
+  where
+    go : (b : Bool) → leb 8 kind ≡ b → 0 ≡ mapsOf book kind
+    go true e = maps-past book kind (leb-true 8 kind e)
+    go false e =
+        let h : kind ≤ 7 = omega (arith, leb-false 8 kind e) in
+        maps-between book low 7 0 kind t l h (lit< tt)
 
 maps-few : (book : Book) (kind : ℕ) → kind < 8 → mapsOf book kind ≤ 8
 unfolding mapsOf unknownKind fieldsOf

@@ -3,7 +3,7 @@
 use mathlib.Core.Path.{_≡_, refl}
 use mathlib.Core.List.{List, [], _∷_}
 use Prim.Native.Nat.{ℕ, _+_}
-use lib.IntN.{ℤ, pos}
+use lib.IntN.{ℤ}
 use lib.ListN.{drop}
 use Rattle.refusals.specs.Rows.{refusalBy}
 use Rattle.refusals.specs.Laws.{gives-number}
@@ -11,8 +11,8 @@ use Rattle.postings.specs.Records.{recordLength, kindIn, bitMapIn, numbe
 use Rattle.postings.specs.declared.Book.{Book}
 use Rattle.postings.specs.declared.Posting.{Posting}
 use Rattle.postings.specs.declared.Read.{Read}
-use Rattle.postings.specs.declared.Read.the-variants as read
 use Rattle.postings.specs.declared.Answer.{Answer}
+use Rattle.postings.specs.declared.Read.the-variants as read
 use Rattle.postings.specs.declared.Answer.the-variants as answer
 
 -- ---- what reading gives: the number, the place (the next one, or that of a refusal), the posting (zeros with a refusal)

@@ -14,19 +14,15 @@ fn wide(x: u8) -> u64
     x as u64
 }
 
-// The 2, 4 and 8 bytes at a place as a number, each made of two of the one before.
-fn pair_at(bytes: &[u8], at: usize) -> u64
-    requires { ⌜ at + 2 ≤ length (now bytes) ⌝ }
-    ensures { λ r. ⌜ (r ≡ value 256 (take 2 (drop at (now (bytes .entry))))) × (r < 65536) ⌝ }
-{
-    wide(bytes[at]) * 256 + wide(bytes[at + 1])
-}
-
+// The 4 and the 8 bytes at a place as a number.
 fn quad_at(bytes: &[u8], at: usize) -> u64
     requires { ⌜ at + 4 ≤ length (now bytes) ⌝ }
     ensures { λ r. ⌜ (r ≡ value 256 (take 4 (drop at (now (bytes .entry))))) × (r < 4294967296) ⌝ }
 {
-    pair_at(bytes, at) * 65536 + pair_at(bytes, at + 2)
+    wide(bytes[at]) * 16777216
+        + wide(bytes[at + 1]) * 65536
+        + wide(bytes[at + 2]) * 256
+        + wide(bytes[at + 3])
 }
 
 fn bits_at(bytes: &[u8], at: usize) -> u64
