@@ -21,19 +21,29 @@ mod exported {
         pub length: usize,
     }
 
+    #[repr(C)]
+    pub struct Cents(pub i64);
+
+    #[repr(C)]
+    pub struct Points(pub i32);
+
     extern "C" {
         pub fn neapscroll_round_div(a: i64, b: i64) -> i64;
         pub fn neapscroll_weight(secondary: i64, primary: i64) -> i64;
-        pub fn neapscroll_write_cents(cents: i64, buffer: *mut u8, length: usize) -> Writing;
-        pub fn neapscroll_write_points(points: i32, buffer: *mut u8, length: usize) -> Writing;
-        pub fn neapscroll_read_electric(bytes: *const u8, length: usize, place: usize) -> Reading;
-        pub fn neapscroll_read_steam(bytes: *const u8, length: usize, place: usize) -> Reading;
-        pub fn neapscroll_write_electric(
+        pub fn neapscroll_write_cents(cents: Cents, buffer: *mut u8, length: usize) -> Writing;
+        pub fn neapscroll_write_points(points: Points, buffer: *mut u8, length: usize) -> Writing;
+        pub fn neapscroll_read_record(
+            steam: bool,
+            bytes: *const u8,
+            length: usize,
+            place: usize,
+        ) -> Reading;
+        pub fn neapscroll_write_record(
+            steam: bool,
             posting: Posting,
             buffer: *mut u8,
             length: usize,
         ) -> Writing;
-        pub fn neapscroll_write_steam(posting: Posting, buffer: *mut u8, length: usize) -> Writing;
     }
 }
 
@@ -54,6 +64,7 @@ pub fn weight(secondary: i64, primary: i64) -> i64 {
 /// The text of cents, as proved.
 #[inline]
 pub fn write_cents(cents: i64, buffer: &mut [u8]) -> Written {
+    let cents = exported::Cents(cents);
     // SAFETY: the function touches no memory of its caller but the buffer of that length.
     written(unsafe { exported::neapscroll_write_cents(cents, buffer.as_mut_ptr(), buffer.len()) })
 }
@@ -61,6 +72,7 @@ pub fn write_cents(cents: i64, buffer: &mut [u8]) -> Written {
 /// The text of points, as proved.
 #[inline]
 pub fn write_points(points: i32, buffer: &mut [u8]) -> Written {
+    let points = exported::Points(points);
     // SAFETY: the function touches no memory of its caller but the buffer of that length.
     written(unsafe { exported::neapscroll_write_points(points, buffer.as_mut_ptr(), buffer.len()) })
 }
@@ -68,23 +80,18 @@ pub fn write_points(points: i32, buffer: &mut [u8]) -> Written {
 /// The posting whose record is at the place, as proved.
 #[inline]
 pub fn read_record(book: Book, bytes: &[u8], place: usize) -> Read {
-    let function = match book {
-        Book::Electric => exported::neapscroll_read_electric,
-        Book::Steam => exported::neapscroll_read_steam,
-    };
+    let steam = book == Book::Steam;
     // SAFETY: the function is total on places and only reads the bytes of that length.
-    read(unsafe { function(bytes.as_ptr(), bytes.len(), place) })
+    read(unsafe { exported::neapscroll_read_record(steam, bytes.as_ptr(), bytes.len(), place) })
 }
 
 /// The record of the posting, as proved.
 #[inline]
 pub fn write_record(book: Book, posting: Posting, buffer: &mut [u8]) -> Written {
-    let function = match book {
-        Book::Electric => exported::neapscroll_write_electric,
-        Book::Steam => exported::neapscroll_write_steam,
-    };
+    let steam = book == Book::Steam;
+    let (start, length) = (buffer.as_mut_ptr(), buffer.len());
     // SAFETY: the function touches no memory of its caller but the buffer of that length.
-    written(unsafe { function(posting, buffer.as_mut_ptr(), buffer.len()) })
+    written(unsafe { exported::neapscroll_write_record(steam, posting, start, length) })
 }
 
 #[inline]

@@ -13,8 +13,7 @@ use borrow.Author.Tests.{lt-ltb, le-ltb}
 use Rattle.ints.specs.Digits.{digits, length-digits}
 use Rattle.refusals.specs.Laws.{at-row, accepted}
 use Rattle.refusals.specs.Stores.{sets-last, sets-append}
-use Rattle.refusals.specs.Writer.{tooShort, writer-refuses, writer-accepts}
-use Rattle.refusals.specs.declared.Written.the-variants.{Bytes, Refused}
+use Rattle.refusals.specs.Writer.{wrote, refused, tooShort, writer-refuses, writer-accepts}
 use Rattle.amounts.specs.Text.{characters, widthOf, decimal, signOf, textOf, textRows, textWritten, textLeft}
 
 pub length-characters : (count n : ℕ) → length (characters (digits 10 count n)) ≡ count
@@ -95,10 +94,10 @@ module _ (places : ℕ) (z : ℤ) (size whole start count : ℕ) (m : Measured p
 
 -- ---- the answer
 
-pub refused : (text buffer : List ℕ) → length buffer < length text → (Refused 13 ≡ textWritten text buffer) × (buffer ≡ textLeft text buffer)
+pub too-short : (text buffer : List ℕ) → length buffer < length text → (refused 13 ≡ textWritten text buffer) × (buffer ≡ textLeft text buffer)
 unfolding textWritten textLeft tooShort
-refused text buffer h = writer-refuses (textRows text buffer) text buffer 13 (omega arith) (at-row 13 [] (lt-ltb (length buffer) (length text) h))
+too-short text buffer h = writer-refuses (textRows text buffer) text buffer 13 (omega arith) (at-row 13 [] (lt-ltb (length buffer) (length text) h))
 
-pub written : (text buffer after : List ℕ) (n : ℕ) → length text ≤ length buffer → n ≡ length text → after ≡ sets buffer 0 text → (Bytes n ≡ textWritten text buffer) × (after ≡ textLeft text buffer)
+pub fits : (text buffer after : List ℕ) (n : ℕ) → length text ≤ length buffer → n ≡ length text → after ≡ sets buffer 0 text → (wrote n ≡ textWritten text buffer) × (after ≡ textLeft text buffer)
 unfolding textWritten textLeft tooShort
-written text buffer after n h e s = writer-accepts (textRows text buffer) text buffer after n (accepted (textRows text buffer) (le-ltb (length buffer) (length text) h, tt)) h e s
+fits text buffer after n h e s = writer-accepts (textRows text buffer) text buffer after n (accepted (textRows text buffer) (le-ltb (length buffer) (length text) h, tt)) h e s

@@ -63,11 +63,14 @@ pub(crate) fn write(amount: i64, places: usize, unit: u64, buffer: &mut [u8]) ->
     let point = start + count;
     let length = point + 1 + places;
     if buffer.len() < length {
-        return Written::Refused(13);
+        return Written {
+            number: 13,
+            length: 0,
+        };
     }
     put_sign(amount, buffer);
     put_digits(buffer, start, count, whole);
     buffer[point] = b'.';
     put_digits(buffer, point + 1, places, size);
-    Written::Bytes(length)
+    Written { number: 0, length }
 }

@@ -1,2 +1,2 @@
--- What a host is told, in numbers.
-pub mod Replies
+-- What a host says in numbers, as the ledger's types.
+pub mod Books

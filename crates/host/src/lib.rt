@@ -11,7 +11,7 @@ ghost use Rattle.rounding.specs.Round.{round};
 ghost use Rattle.rounding.specs.Weight.{weightOr0};
 ghost use Rattle.amounts.specs.Text.{centsText, pointsText, textWritten, textLeft};
 ghost use Rattle.postings.specs.Records.{readOf, recordWritten, recordLeft};
-ghost use Rattle.host.specs.Replies.{readingOf, writingOf};
+ghost use Rattle.host.specs.Books.{bookOf};
 
 // round(a/b); a divisor below 1 gives 0.
 #[no_mangle]
@@ -29,99 +29,44 @@ pub extern "C" fn neapscroll_weight(secondary: i64, primary: i64) -> i64
     rounding::weight(secondary, primary)
 }
 
-// What a writer answers: 0 and how many bytes it wrote, or a refusal's number and 0.
-#[repr(C)]
-pub struct Writing {
-    pub number: u8,
-    pub length: usize,
-}
-
-// What a reader answers: 0, the next place and the posting, or a refusal's number, the place and a posting of zeros.
-#[repr(C)]
-pub struct Reading {
-    pub number: u8,
-    pub place: usize,
-    pub posting: Posting,
-}
-
-fn writing_of(written: Written) -> Writing
-    ensures { λ r. ⌜ r ≡ writingOf written ⌝ }
-{
-    match written {
-        Written::Bytes(length) => Writing { number: 0, length },
-        Written::Refused(number) => Writing { number, length: 0 },
-    }
-}
-
-fn reading_of(read: Read) -> Reading
-    ensures { λ r. ⌜ r ≡ readingOf read ⌝ }
-{
-    match read {
-        Read::Found(posting, place) => Reading {
-            number: 0,
-            place,
-            posting,
-        },
-        Read::Refused(number, place) => {
-            let posting = Posting {
-                kind: 0,
-                first: 0,
-                second: 0,
-                third: 0,
-            };
-            Reading {
-                number,
-                place,
-                posting,
-            }
-        }
-    }
-}
-
 // Writes cents as text.
 #[no_mangle]
-pub extern "C" fn neapscroll_write_cents(cents: Cents, buffer: &mut [u8]) -> Writing
-    ensures { λ r. ⌜ (r ≡ writingOf (textWritten (centsText cents) (now (buffer .entry)))) × (now (buffer .exit) ≡ textLeft (centsText cents) (now (buffer .entry))) ⌝ }
+pub extern "C" fn neapscroll_write_cents(cents: Cents, buffer: &mut [u8]) -> Written
+    ensures { λ r. ⌜ (r ≡ textWritten (centsText cents) (now (buffer .entry))) × (now (buffer .exit) ≡ textLeft (centsText cents) (now (buffer .entry))) ⌝ }
 {
-    writing_of(cents.write(buffer))
+    cents.write(buffer)
 }
 
 // Writes points as text.
 #[no_mangle]
-pub extern "C" fn neapscroll_write_points(points: Points, buffer: &mut [u8]) -> Writing
-    ensures { λ r. ⌜ (r ≡ writingOf (textWritten (pointsText points) (now (buffer .entry)))) × (now (buffer .exit) ≡ textLeft (pointsText points) (now (buffer .entry))) ⌝ }
+pub extern "C" fn neapscroll_write_points(points: Points, buffer: &mut [u8]) -> Written
+    ensures { λ r. ⌜ (r ≡ textWritten (pointsText points) (now (buffer .entry))) × (now (buffer .exit) ≡ textLeft (pointsText points) (now (buffer .entry))) ⌝ }
 {
-    writing_of(points.write(buffer))
+    points.write(buffer)
 }
 
-// Reads the electric record at a place.
-#[no_mangle]
-pub extern "C" fn neapscroll_read_electric(bytes: &[u8], place: usize) -> Reading
-    ensures { λ r. ⌜ r ≡ readingOf (readOf Book.Electric (now (bytes .entry)) place) ⌝ }
+fn book_of(steam: bool) -> Book
+    ensures { λ r. ⌜ r ≡ bookOf steam ⌝ }
 {
-    reading_of(postings::read_record(Book::Electric, bytes, place))
+    if steam { Book::Steam } else { Book::Electric }
 }
 
-// Reads the steam record at a place.
+// Reads the record at a place, of the steam book or of the electric one.
 #[no_mangle]
-pub extern "C" fn neapscroll_read_steam(bytes: &[u8], place: usize) -> Reading
-    ensures { λ r. ⌜ r ≡ readingOf (readOf Book.Steam (now (bytes .entry)) place) ⌝ }
+pub extern "C" fn neapscroll_read_record(steam: bool, bytes: &[u8], place: usize) -> Read
+    ensures { λ r. ⌜ r ≡ readOf (bookOf steam) (now (bytes .entry)) place ⌝ }
 {
-    reading_of(postings::read_record(Book::Steam, bytes, place))
+    postings::read_record(book_of(steam), bytes, place)
 }
 
-// Writes the electric record of a posting.
+// Writes the record of a posting to the steam book or to the electric one.
 #[no_mangle]
-pub extern "C" fn neapscroll_write_electric(posting: Posting, buffer: &mut [u8]) -> Writing
-    ensures { λ r. ⌜ (r ≡ writingOf (recordWritten Book.Electric posting (now (buffer .entry)))) × (now (buffer .exit) ≡ recordLeft Book.Electric posting (now (buffer .entry))) ⌝ }
+pub extern "C" fn neapscroll_write_record(
+    steam: bool,
+    posting: Posting,
+    buffer: &mut [u8],
+) -> Written
+    ensures { λ r. ⌜ (r ≡ recordWritten (bookOf steam) posting (now (buffer .entry))) × (now (buffer .exit) ≡ recordLeft (bookOf steam) posting (now (buffer .entry))) ⌝ }
 {
-    writing_of(postings::write_record(Book::Electric, posting, buffer))
-}
-
-// Writes the steam record of a posting.
-#[no_mangle]
-pub extern "C" fn neapscroll_write_steam(posting: Posting, buffer: &mut [u8]) -> Writing
-    ensures { λ r. ⌜ (r ≡ writingOf (recordWritten Book.Steam posting (now (buffer .entry)))) × (now (buffer .exit) ≡ recordLeft Book.Steam posting (now (buffer .entry))) ⌝ }
-{
-    writing_of(postings::write_record(Book::Steam, posting, buffer))
+    postings::write_record(book_of(steam), posting, buffer)
 }

@@ -1,13 +1,13 @@
 -- How many bit maps a kind of either book may have, and what that number tells. Assumes nothing.
-use mathlib.Core.Path.{_≡_, refl, sym, ap, _∙_, subst}
-use mathlib.Core.Bool.{Bool, true, false, cond, _||_}
+use mathlib.Core.Path.{_≡_, refl, sym, ap, _∙_}
+use mathlib.Core.Bool.{Bool, true, false, cond}
 use mathlib.Core.List.{List}
 use Prim.Native.Nat.{ℕ, _^_, _<_, _≤_}
 use native.Mathlib.Omega.{arith}
 use native.Mathlib.Nat.{one-le-pow}
-use lib.Dec.{T, eqb, ltb, leb, eqb→eq, leb→le, lit<}
-use lib.ListN.{length}
-use borrow.Author.Tests.{ne-eqb, le-ltb, le-leb, lt-leb, leb-true, leb-false}
+use lib.Dec.{T, eqb, leb, eqb→eq, leb→le, lit<}
+use lib.ListN.{length, getD}
+use borrow.Author.Tests.{ne-eqb, le-leb, lt-leb, leb-true, leb-false}
 use Rattle.ints.specs.Flags.{allBelow, all-below}
 use Rattle.postings.proofs.BitMaps.{beyond}
 use Rattle.postings.specs.Kinds.{fieldsOf, unknownKind, standsBeyond}
@@ -30,26 +30,13 @@ unknown-past book kind h = go book
         simp
         (other 1 (lit< tt), other 2 (lit< tt), other 3 (lit< tt), other 4 (lit< tt), other 5 (lit< tt), other 6 (lit< tt), other 7 (lit< tt))
 
-maps-past : (book : Book) (kind : ℕ) → 8 ≤ kind → 0 ≡ mapsOf book kind
+pub maps-past : (book : Book) (kind : ℕ) → 8 ≤ kind → 0 ≡ mapsOf book kind
 unfolding mapsOf
 maps-past book kind h = sym (ap (λ (t : Bool). cond t 0 (2 ^ length (fieldsOf book kind))) (unknown-past book kind h))
 
--- the kinds from low to high have so many maps: the test computes, over the table's eight kinds
-pub maps-between : (book : Book) (low high maps kind : ℕ) → T (allBelow 8 (λ (k : ℕ). ltb k low || (ltb high k || eqb maps (mapsOf book k)))) → low ≤ kind → kind ≤ high → high < 8 → maps ≡ mapsOf book kind
-maps-between book low high maps kind t l h e =
-    let k : kind < 8 = omega arith in
-    let p = all-below 8 (λ (k : ℕ). ltb k low || (ltb high k || eqb maps (mapsOf book k))) t kind k in
-    eqb→eq maps (mapsOf book kind) (subst (λ (b : Bool). T (b || eqb maps (mapsOf book kind))) (le-ltb high kind h) (subst (λ (b : Bool). T (b || (ltb high kind || eqb maps (mapsOf book kind)))) (le-ltb kind low l) p))
-
--- the kinds from low on are none of the book's
-pub maps-above : (book : Book) (low kind : ℕ) → T (allBelow 8 (λ (k : ℕ). ltb k low || (ltb 7 k || eqb 0 (mapsOf book k)))) → low ≤ kind → 0 ≡ mapsOf book kind
-maps-above book low kind t l = go (leb 8 kind) refl
-  where
-    go : (b : Bool) → leb 8 kind ≡ b → 0 ≡ mapsOf book kind
-    go true e = maps-past book kind (leb-true 8 kind e)
-    go false e =
-        let h : kind ≤ 7 = omega (arith, leb-false 8 kind e) in
-        maps-between book low 7 0 kind t l h (lit< tt)
+-- a table of the eight kinds below 8: the test computes
+pub table-maps : (book : Book) (table : List ℕ) (kind : ℕ) → T (allBelow 8 (λ (k : ℕ). eqb (getD table k 0) (mapsOf book k))) → kind < 8 → getD table kind 0 ≡ mapsOf book kind
+table-maps book table kind t h = eqb→eq (getD table kind 0) (mapsOf book kind) (all-below 8 (λ (k : ℕ). eqb (getD table k 0) (mapsOf book k)) t kind h)
 
 maps-few : (book : Book) (kind : ℕ) → kind < 8 → mapsOf book kind ≤ 8
 unfolding mapsOf unknownKind fieldsOf

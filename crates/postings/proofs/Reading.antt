@@ -15,11 +15,10 @@ use Rattle.postings.proofs.BitMaps.{count, ones-of-bits, map-of-bits}
 use Rattle.postings.proofs.KindTable.{maps-none, maps-some, stands-beyond, none-beyond}
 use Rattle.postings.specs.Kinds.{fieldsOf, unknownKind, standsBeyond}
 use Rattle.postings.specs.Fields.{fieldOf}
-use Rattle.postings.specs.Records.{recordLength, kindIn, bitMapIn, bitsFrom, fieldsAt, zeroPresent, postingOf, readOf, bitMapOf}
+use Rattle.postings.specs.Records.{recordLength, kindIn, bitMapIn, bitsFrom, fieldsAt, zeroPresent, postingOf, foundAt, refusedAt, readOf, bitMapOf}
 use Rattle.postings.specs.Steps.{mapsOf, stepAt, fieldsRead}
 use Rattle.postings.specs.declared.Book.{Book}
 use Rattle.postings.specs.declared.Read.{Read}
-use Rattle.postings.specs.declared.Read.the-variants.{Found, Refused}
 use Rattle.postings.specs.declared.records.Step.{Step}
 
 -- ---- one field
@@ -61,6 +60,12 @@ pub length-three : (m : ℕ) → m < 8 → recordLength m ≡ 2 + 8 * count (bit
 unfolding recordLength
 length-three m h = ap (λ (k : ℕ). 2 + 8 * k) (ones-of-bits 3 m h ∙ ap count (bits-three m))
 
+regroup : (a b c : Bool) → a || (b || (c || false)) ≡ a || b || c
+regroup true b c = refl
+regroup false true c = refl
+regroup false false true = refl
+regroup false false false = refl
+
 module _ (s : List ℕ) (place kind m : ℕ) where
   abbrev pub step₁ : Step
   step₁ = stepAt s (place + 2) (bit₁ m)
@@ -72,7 +77,7 @@ module _ (s : List ℕ) (place kind m : ℕ) where
   step₃ = stepAt s (step₂ .next) (bit₃ m)
 
   abbrev pub empty : Bool
-  empty = step₁ .empty || (step₂ .empty || (step₃ .empty || false))
+  empty = step₁ .empty || step₂ .empty || step₃ .empty
 
   abbrev numbers : List ℤ
   numbers = step₁ .number ∷ step₂ .number ∷ step₃ .number ∷ []
@@ -92,20 +97,21 @@ module _ (s : List ℕ) (place kind m : ℕ) where
       ∙ step-empty s (place + 2) (bit₁ m) (bit₂ m ∷ bit₃ m ∷ []) (step₂ .number ∷ step₃ .number ∷ [])
       ∙ ap (λ (t : Bool). step₁ .empty || t) (step-empty s (step₁ .next) (bit₂ m) (bit₃ m ∷ []) (step₃ .number ∷ []))
       ∙ ap (λ (t : Bool). step₁ .empty || (step₂ .empty || t)) (step-empty s (step₂ .next) (bit₃ m) [] [])
+      ∙ regroup (step₁ .empty) (step₂ .empty) (step₃ .empty)
 
   pub next-three : step₃ .next ≡ place + 2 + 8 * count (bit₁ m ∷ bit₂ m ∷ bit₃ m ∷ [])
   next-three = omega (arith, next-is s (place + 2) (bit₁ m), next-is s (step₁ .next) (bit₂ m), next-is s (step₂ .next) (bit₃ m))
 
-  pub some-empty : empty ≡ true → Refused 5 place ≡ fieldsRead s place kind m
+  pub some-empty : empty ≡ true → refusedAt place 5 ≡ fieldsRead s place kind m
   unfolding fieldsRead
-  some-empty e = sym (ap (λ (t : Bool). cond t (Refused 5 place) (Found (postingOf kind (fieldsAt (bitsFrom 3 m) (drop (place + 2) s))) (place + recordLength m))) (empty-is ∙ e))
+  some-empty e = sym (ap (λ (t : Bool). cond t (refusedAt place 5) (foundAt (place + recordLength m) (postingOf kind (fieldsAt (bitsFrom 3 m) (drop (place + 2) s))))) (empty-is ∙ e))
 
-  pub none-empty : m < 8 → empty ≡ false → Found (postingOf kind numbers) (step₃ .next) ≡ fieldsRead s place kind m
+  pub none-empty : m < 8 → empty ≡ false → foundAt (step₃ .next) (postingOf kind numbers) ≡ fieldsRead s place kind m
   unfolding fieldsRead
   none-empty h e =
       let n : step₃ .next ≡ place + recordLength m = omega (arith, next-three, length-three m h) in
-      (λ i. Found (postingOf kind (sym numbers-are i)) (n i))
-      ∙ sym (ap (λ (t : Bool). cond t (Refused 5 place) (Found (postingOf kind (fieldsAt (bitsFrom 3 m) (drop (place + 2) s))) (place + recordLength m))) (empty-is ∙ e))
+      (λ i. foundAt (n i) (postingOf kind (sym numbers-are i)))
+      ∙ sym (ap (λ (t : Bool). cond t (refusedAt place 5) (foundAt (place + recordLength m) (postingOf kind (fieldsAt (bitsFrom 3 m) (drop (place + 2) s))))) (empty-is ∙ e))
 
 -- ---- row by row
 
@@ -143,7 +149,7 @@ module _ (book : Book) (s : List ℕ) (place : ℕ) where
       ∷ []
 
   abbrev foundBy : ℕ → ℕ → List ℕ → Read
-  foundBy kind bitMap fields = Found (postingOf kind (fieldsAt (bitsFrom 3 bitMap) fields)) (place + recordLength bitMap)
+  foundBy kind bitMap fields = foundAt (place + recordLength bitMap) (postingOf kind (fieldsAt (bitsFrom 3 bitMap) fields))
 
   abbrev rows : List Row
   rows = rowsBy k m (drop (place + 2) s)
@@ -151,24 +157,21 @@ module _ (book : Book) (s : List ℕ) (place : ℕ) where
   abbrev found : Read
   found = foundBy k m (drop (place + 2) s)
 
-  abbrev refused : ℕ → Read
-  refused n = Refused n place
-
-  read-is : readOf book s place ≡ byTable rows found refused
+  read-is : readOf book s place ≡ byTable rows found (refusedAt place)
   unfolding readOf
-  read-is = λ i. byTable (rowsBy (kind-is s place i) (map-is s place i) (drop-drop 2 place s i)) (foundBy (kind-is s place i) (map-is s place i) (drop-drop 2 place s i)) refused
+  read-is = λ i. byTable (rowsBy (kind-is s place i) (map-is s place i) (drop-drop 2 place s i)) (foundBy (kind-is s place i) (map-is s place i) (drop-drop 2 place s i)) (refusedAt place)
 
-  by-row : (n : ℕ) → 0 < n → refusalBy rows ≡ n → Refused n place ≡ readOf book s place
-  by-row n h e = sym (read-is ∙ gives-refusal rows found refused n h e)
+  by-row : (n : ℕ) → 0 < n → refusalBy rows ≡ n → refusedAt place n ≡ readOf book s place
+  by-row n h e = sym (read-is ∙ gives-refusal rows found (refusedAt place) n h e)
 
-  pub refused₁ : length (drop place s) < 2 → Refused 1 place ≡ readOf book s place
+  pub refused₁ : length (drop place s) < 2 → refusedAt place 1 ≡ readOf book s place
   refused₁ h = by-row 1 (lit< tt) (at-row 1 _ (lt-ltb (length (drop place s)) 2 h))
 
   module _ (some : 2 ≤ length (drop place s)) where
     enough : ltb (length (drop place s)) 2 ≡ false
     enough = le-ltb (length (drop place s)) 2 some
 
-    pub refused₂ : mapsOf book k ≡ 0 → Refused 2 place ≡ readOf book s place
+    pub refused₂ : mapsOf book k ≡ 0 → refusedAt place 2 ≡ readOf book s place
     refused₂ e = by-row 2 (lit< tt) (past-row 1 _ enough ∙ at-row 2 _ (maps-none book k e))
 
     module _ (has : 0 < mapsOf book k) (byte : m < 256) where
@@ -178,7 +181,7 @@ module _ (book : Book) (s : List ℕ) (place : ℕ) where
       bits-make : bitMapOf (bitsFrom 8 m) ≡ m
       bits-make = map-of-bits 8 m byte
 
-      pub refused₃ : mapsOf book k ≤ m → Refused 3 place ≡ readOf book s place
+      pub refused₃ : mapsOf book k ≤ m → refusedAt place 3 ≡ readOf book s place
       refused₃ h = by-row 3 (lit< tt) (past-row 1 _ enough ∙ past-row 2 _ known ∙ at-row 3 _ (stands-beyond book k (bitsFrom 8 m) known (omega (arith, bits-make))))
 
       module _ (few : m < mapsOf book k) where
@@ -188,7 +191,7 @@ module _ (book : Book) (s : List ℕ) (place : ℕ) where
         past₃ : refusalBy rows ≡ refusalBy (row 4 (ltb (length (drop place s)) (recordLength m)) ∷ fifth)
         past₃ = past-row 1 _ enough ∙ past-row 2 _ known ∙ past-row 3 _ (none-beyond book k (bitsFrom 8 m) known (omega (arith, bits-make)))
 
-        pub refused₄ : length (drop place s) < recordLength m → Refused 4 place ≡ readOf book s place
+        pub refused₄ : length (drop place s) < recordLength m → refusedAt place 4 ≡ readOf book s place
         refused₄ h = by-row 4 (lit< tt) (past₃ ∙ at-row 4 fifth (lt-ltb (length (drop place s)) (recordLength m) h))
 
         pub fields-are : recordLength m ≤ length (drop place s) → fieldsRead s place k m ≡ readOf book s place
@@ -199,5 +202,5 @@ module _ (book : Book) (s : List ℕ) (place : ℕ) where
             past₄ = past₃ ∙ past-row 4 fifth (le-ltb (length (drop place s)) (recordLength m) h)
 
             go : (t : Bool) → zeroPresent (bitsFrom 3 m) (fieldsAt (bitsFrom 3 m) (drop (place + 2) s)) ≡ t → fieldsRead s place k m ≡ readOf book s place
-            go true e = ap (λ (t : Bool). cond t (Refused 5 place) found) e ∙ by-row 5 (lit< tt) (past₄ ∙ at-row 5 [] e)
-            go false e = ap (λ (t : Bool). cond t (Refused 5 place) found) e ∙ sym (read-is ∙ gives-asked rows found refused (past₄ ∙ past-row 5 [] e ∙ accepted [] tt))
+            go true e = ap (λ (t : Bool). cond t (refusedAt place 5) found) e ∙ by-row 5 (lit< tt) (past₄ ∙ at-row 5 [] e)
+            go false e = ap (λ (t : Bool). cond t (refusedAt place 5) found) e ∙ sym (read-is ∙ gives-asked rows found (refusedAt place) (past₄ ∙ past-row 5 [] e ∙ accepted [] tt))

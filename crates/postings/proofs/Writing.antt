@@ -14,8 +14,7 @@ use Rattle.ints.specs.Machine.{eqZ}
 use Rattle.refusals.specs.Rows.{Row, refusalBy}
 use Rattle.refusals.specs.Laws.{at-row, past-row, accepted}
 use Rattle.refusals.specs.Stores.{sets-append}
-use Rattle.refusals.specs.Writer.{tooShort, writer-refuses, writer-accepts}
-use Rattle.refusals.specs.declared.Written.the-variants.{Bytes, Refused}
+use Rattle.refusals.specs.Writer.{wrote, refused, tooShort, writer-refuses, writer-accepts}
 use Rattle.postings.proofs.BitMaps.{count, ones-of-map}
 use Rattle.postings.proofs.KindTable.{maps-none, maps-some, stands-beyond, none-beyond}
 use Rattle.postings.specs.Kinds.{fieldsOf, unknownKind, numbersOf, standing, standsBeyond}
@@ -90,29 +89,29 @@ module _ (book : Book) (p : Posting) (buffer : List ℕ) where
   abbrev rows : List Row
   rows = writingRows book p buffer
 
-  by-row : (n : ℕ) → 0 < n → refusalBy rows ≡ n → (Refused n ≡ recordWritten book p buffer) × (buffer ≡ recordLeft book p buffer)
+  by-row : (n : ℕ) → 0 < n → refusalBy rows ≡ n → (refused n ≡ recordWritten book p buffer) × (buffer ≡ recordLeft book p buffer)
   unfolding recordWritten recordLeft
   by-row n h e = writer-refuses rows (recordOf p) buffer n h e
 
-  pub refused₂ : mapsOf book (p .kind) ≡ 0 → (Refused 2 ≡ recordWritten book p buffer) × (buffer ≡ recordLeft book p buffer)
+  pub refused₂ : mapsOf book (p .kind) ≡ 0 → (refused 2 ≡ recordWritten book p buffer) × (buffer ≡ recordLeft book p buffer)
   refused₂ e = by-row 2 (lit< tt) (at-row 2 _ (maps-none book (p .kind) e))
 
   module _ (has : 0 < mapsOf book (p .kind)) where
     known : unknownKind book (p .kind) ≡ false
     known = maps-some book (p .kind) has
 
-    pub refused₃ : mapsOf book (p .kind) ≤ bitMapOf bits → (Refused 3 ≡ recordWritten book p buffer) × (buffer ≡ recordLeft book p buffer)
+    pub refused₃ : mapsOf book (p .kind) ≤ bitMapOf bits → (refused 3 ≡ recordWritten book p buffer) × (buffer ≡ recordLeft book p buffer)
     refused₃ h = by-row 3 (lit< tt) (past-row 2 _ known ∙ at-row 3 _ (stands-beyond book (p .kind) bits known h))
 
     module _ (few : bitMapOf bits < mapsOf book (p .kind)) where
       none : standsBeyond (fieldsOf book (p .kind)) bits ≡ false
       none = none-beyond book (p .kind) bits known few
 
-      pub refused₁₃ : length buffer < length (recordOf p) → (Refused 13 ≡ recordWritten book p buffer) × (buffer ≡ recordLeft book p buffer)
+      pub refused₁₃ : length buffer < length (recordOf p) → (refused 13 ≡ recordWritten book p buffer) × (buffer ≡ recordLeft book p buffer)
       unfolding tooShort
       refused₁₃ h = by-row 13 (lit< tt) (past-row 2 _ known ∙ past-row 3 _ none ∙ at-row 13 [] (lt-ltb (length buffer) (length (recordOf p)) h))
 
-      pub written : (after : List ℕ) (n : ℕ) → length (recordOf p) ≤ length buffer → n ≡ length (recordOf p) → after ≡ sets buffer 0 (recordOf p) → (Bytes n ≡ recordWritten book p buffer) × (after ≡ recordLeft book p buffer)
+      pub written : (after : List ℕ) (n : ℕ) → length (recordOf p) ≤ length buffer → n ≡ length (recordOf p) → after ≡ sets buffer 0 (recordOf p) → (wrote n ≡ recordWritten book p buffer) × (after ≡ recordLeft book p buffer)
       unfolding tooShort recordWritten recordLeft
       written after n h e s =
           writer-accepts rows (recordOf p) buffer after n (accepted rows (known, (none, (le-ltb (length buffer) (length (recordOf p)) h, tt)))) h e s

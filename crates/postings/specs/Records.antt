@@ -1,4 +1,5 @@
 -- Posting records (01, Posting records, Refusals in order of checking): what reading at a place gives, and what writing a posting.
+use mathlib.Core.Path.{_≡_, refl}
 use mathlib.Core.Bool.{Bool, true, false, cond, _||_}
 use mathlib.Core.List.{List, [], _∷_, _++_}
 use Prim.Native.Nat.{ℕ, zero, suc, _+_, _*_, _/_, _%_}
@@ -7,7 +8,8 @@ use lib.Dec.{eqb, ltb}
 use lib.IntN.{ℤ, pos}
 use lib.ListN.{length, getD, drop}
 use Rattle.ints.specs.Machine.{eqZ}
-use Rattle.refusals.specs.Rows.{Row, row, byTable}
+use Rattle.refusals.specs.Rows.{Row, row, refusalBy, byTable}
+use Rattle.refusals.specs.Laws.{gives-number}
 use Rattle.refusals.specs.Writer.{tooShort, writtenBy, leftBy}
 use Rattle.refusals.specs.declared.Written.{Written}
 use Rattle.postings.specs.Kinds.{fieldsOf, unknownKind, numbersOf, standing, standsBeyond}
@@ -15,7 +17,6 @@ use Rattle.postings.specs.Fields.{fieldOf, bytesOf}
 use Rattle.postings.specs.declared.Book.{Book}
 use Rattle.postings.specs.declared.Posting.{Posting}
 use Rattle.postings.specs.declared.Read.{Read}
-use Rattle.postings.specs.declared.Read.the-variants.{Found, Refused}
 
 -- the record's length is 2 + 8 × the standing bits
 unfoldable pub recordLength : ℕ → ℕ
@@ -64,13 +65,25 @@ abbrev pub postingOf : ℕ → List ℤ → Posting
 postingOf kind numbers =
     record { kind = kind; first = getD numbers 0 (pos 0); second = getD numbers 1 (pos 0); third = getD numbers 2 (pos 0) }
 
--- the posting at a place and the next place, or the refusal and the place
+-- 0, the next place and the posting found there
+abbrev pub foundAt : ℕ → Posting → Read
+foundAt next p = record { number = 0; place = next; posting = p }
+
+-- the number of the refusal and the place, with a posting of kind 0
+abbrev pub refusedAt : ℕ → ℕ → Read
+refusedAt place n = record { number = n; place = place; posting = postingOf 0 [] }
+
 unfoldable pub readOf : Book → List ℕ → ℕ → Read
 readOf book bytes place =
     let rest = drop place bytes in
     byTable (readingRows book rest)
-    (Found (postingOf (kindIn rest) (numbersIn rest)) (place + recordLength (bitMapIn rest)))
-    (λ (n : ℕ). Refused n place)
+    (foundAt (place + recordLength (bitMapIn rest)) (postingOf (kindIn rest) (numbersIn rest)))
+    (refusedAt place)
+
+-- the number returned is the table's
+pub read-number : (book : Book) (bytes : List ℕ) (place : ℕ) → readOf book bytes place .number ≡ refusalBy (readingRows book (drop place bytes))
+unfolding readOf
+read-number book bytes place = gives-number (readingRows book (drop place bytes)) _ (refusedAt place) (λ (r : Read). r .number) refl (λ n. refl)
 
 -- ---- writing
 

@@ -7,10 +7,9 @@ use lib.ListN.{length, drop}
 use Rattle.ints.specs.Machine.{eqZ}
 use Rattle.postings.specs.Kinds.{fieldsOf, unknownKind}
 use Rattle.postings.specs.Fields.{fieldOf}
-use Rattle.postings.specs.Records.{bitsFrom, fieldsAt, zeroPresent, postingOf, recordLength}
+use Rattle.postings.specs.Records.{bitsFrom, fieldsAt, zeroPresent, postingOf, recordLength, foundAt, refusedAt}
 use Rattle.postings.specs.declared.Book.{Book}
 use Rattle.postings.specs.declared.Read.{Read}
-use Rattle.postings.specs.declared.Read.the-variants.{Found, Refused}
 use Rattle.postings.specs.declared.records.Step.{Step}
 
 -- how many bit maps the records of a kind may have; none of a kind that the book lacks
@@ -31,7 +30,7 @@ unfoldable pub fieldsRead : List ℕ → ℕ → ℕ → ℕ → Read
 fieldsRead bytes place kind bitMap =
     let bits = bitsFrom 3 bitMap in
     let numbers = fieldsAt bits (drop (place + 2) bytes) in
-    cond (zeroPresent bits numbers) (Refused 5 place) (Found (postingOf kind numbers) (place + recordLength bitMap))
+    cond (zeroPresent bits numbers) (refusedAt place 5) (foundAt (place + recordLength bitMap) (postingOf kind numbers))
 
 -- the bit of a number in the map
 unfoldable pub bitOf : ℤ → ℕ

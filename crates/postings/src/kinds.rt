@@ -13,24 +13,26 @@ pub(crate) fn maps_of(book: Book, kind: u8) -> u8
     }
 }
 
+const ELECTRIC_MAPS: [u8; 8] = [0, 8, 4, 4, 4, 2, 4, 0];
+
 fn electric_maps(kind: u8) -> u8
     ensures { λ r. ⌜ r ≡ mapsOf Book.Electric kind ⌝ }
 {
-    match kind {
-        1 => 8,
-        2 | 3 | 4 | 6 => 4,
-        5 => 2,
-        _ => 0,
+    let k = kind as usize;
+    if 8 <= k {
+        return 0;
     }
+    ELECTRIC_MAPS[k]
 }
+
+const STEAM_MAPS: [u8; 8] = [0, 2, 2, 2, 2, 1, 4, 4];
 
 fn steam_maps(kind: u8) -> u8
     ensures { λ r. ⌜ r ≡ mapsOf Book.Steam kind ⌝ }
 {
-    match kind {
-        1 | 2 | 3 | 4 => 2,
-        5 => 1,
-        6 | 7 => 4,
-        _ => 0,
+    let k = kind as usize;
+    if 8 <= k {
+        return 0;
     }
+    STEAM_MAPS[k]
 }

@@ -24,10 +24,13 @@ pub struct Posting {
     pub third: i64,
 }
 
-// What reading at a place gives: a posting and the next place, or a refusal's number and the place.
-pub enum Read {
-    Found(Posting, usize),
-    Refused(u8, usize),
+// What reading at a place gives: 0, the next place and the posting; or the number of a refusal, the place, and a posting of kind 0,
+// which every book refuses.
+#[repr(C)]
+pub struct Read {
+    pub number: u8,
+    pub place: usize,
+    pub posting: Posting,
 }
 
 // What a book answers to a posting: a bill's line, the factors that a settlement filed (one a level on the electric book, one on the
@@ -47,19 +50,19 @@ pub fn read_record(book: Book, bytes: &[u8], place: usize) -> Read
 {
     let remaining = records::remaining(bytes, place);
     if remaining < 2 {
-        return Read::Refused(1, place);
+        return records::refused(1, place);
     }
     let kind = bytes[place];
     let bitmap = bytes[place + 1];
     let maps = kinds::maps_of(book, kind);
     if maps == 0 {
-        return Read::Refused(2, place);
+        return records::refused(2, place);
     }
     if maps <= bitmap {
-        return Read::Refused(3, place);
+        return records::refused(3, place);
     }
     if remaining < records::record_length(bitmap) {
-        return Read::Refused(4, place);
+        return records::refused(4, place);
     }
     records::read_fields(bytes, place, kind, bitmap)
 }
@@ -70,16 +73,25 @@ pub fn write_record(book: Book, posting: Posting, buffer: &mut [u8]) -> Written
 {
     let maps = kinds::maps_of(book, posting.kind);
     if maps == 0 {
-        return Written::Refused(2);
+        return Written {
+            number: 2,
+            length: 0,
+        };
     }
     let bitmap = records::bitmap_of(posting);
     if maps <= bitmap {
-        return Written::Refused(3);
+        return Written {
+            number: 3,
+            length: 0,
+        };
     }
     let length = records::record_length(bitmap);
     if buffer.len() < length {
-        return Written::Refused(13);
+        return Written {
+            number: 13,
+            length: 0,
+        };
     }
     records::put_record(posting, bitmap, buffer);
-    Written::Bytes(length)
+    Written { number: 0, length }
 }

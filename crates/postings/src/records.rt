@@ -6,7 +6,7 @@ ghost use Prim.Native.Nat.{_+_, _≤_, _<_};
 ghost use lib.ListN.{length, drop};
 ghost use lib.Seq.{sets};
 ghost use Rattle.postings.specs.Kinds.{numbersOf, standing};
-ghost use Rattle.postings.specs.Records.{recordLength, bitMapOf, recordOf};
+ghost use Rattle.postings.specs.Records.{recordLength, refusedAt, bitMapOf, recordOf};
 ghost use Rattle.postings.specs.Steps.{bitOf, stepAt, fieldsRead};
 
 // How many bytes remain from a place on.
@@ -24,6 +24,22 @@ pub(crate) fn record_length(bitmap: u8) -> usize
     ensures { λ r. ⌜ r ≡ recordLength bitmap ⌝ }
 {
     2 + 8 * (u8::count_ones(bitmap) as usize)
+}
+
+pub(crate) fn refused(number: u8, place: usize) -> Read
+    ensures { λ r. ⌜ r ≡ refusedAt place number ⌝ }
+{
+    let posting = Posting {
+        kind: 0,
+        first: 0,
+        second: 0,
+        third: 0,
+    };
+    Read {
+        number,
+        place,
+        posting,
+    }
 }
 
 // What a bit of the map finds at a place: the number, the place after it, and whether it is a field of 0.
@@ -61,14 +77,8 @@ pub(crate) fn read_fields(bytes: &[u8], place: usize, kind: u8, bitmap: u8) -> R
     let first = step_at(bytes, place + 2, bitmap % 2 == 1);
     let second = step_at(bytes, first.next, bitmap / 2 % 2 == 1);
     let third = step_at(bytes, second.next, bitmap / 4 % 2 == 1);
-    if first.empty {
-        return Read::Refused(5, place);
-    }
-    if second.empty {
-        return Read::Refused(5, place);
-    }
-    if third.empty {
-        return Read::Refused(5, place);
+    if first.empty | second.empty | third.empty {
+        return refused(5, place);
     }
     let posting = Posting {
         kind,
@@ -76,7 +86,11 @@ pub(crate) fn read_fields(bytes: &[u8], place: usize, kind: u8, bitmap: u8) -> R
         second: second.number,
         third: third.number,
     };
-    Read::Found(posting, third.next)
+    Read {
+        number: 0,
+        place: third.next,
+        posting,
+    }
 }
 
 // 1 for a number that has a field, 0 for 0, which has none.

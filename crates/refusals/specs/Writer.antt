@@ -10,40 +10,37 @@ use Rattle.refusals.specs.Rows.{Row, refusalBy, byTable}
 use Rattle.refusals.specs.Laws.{gives-asked, gives-refusal, gives-number}
 use Rattle.refusals.specs.Stores.{sets-front}
 use Rattle.refusals.specs.declared.Written.{Written}
-use Rattle.refusals.specs.declared.Written.the-variants.{Bytes, Refused}
 
 -- 13: writer's buffer too short
 unfoldable pub tooShort : List ℕ → List ℕ → Bool
 tooShort bytes buffer = ltb (length buffer) (length bytes)
 
--- the answer of a writer of these bytes, by its table: their number, or the refusal
+-- the answer of a writer of these bytes, by its table: 0 and their number, or the refusal's number and 0
+abbrev pub wrote : ℕ → Written
+wrote count = record { number = 0; length = count }
+
+abbrev pub refused : ℕ → Written
+refused n = record { number = n; length = 0 }
+
 abbrev pub writtenBy : List Row → List ℕ → Written
-writtenBy rows bytes = byTable rows (Bytes (length bytes)) Refused
+writtenBy rows bytes = byTable rows (wrote (length bytes)) refused
 
 -- the buffer afterwards: the bytes, with those past them untouched; every byte as it was where the writer refuses
 abbrev pub leftBy : List Row → List ℕ → List ℕ → List ℕ
 leftBy rows bytes buffer = byTable rows (bytes ++ drop (length bytes) buffer) (λ (n : ℕ). buffer)
 
--- document 01's number of each case, 0 for no refusal, and its value: how many bytes were written
-abbrev pub writtenNumber : Written → ℕ
-writtenNumber (Bytes count) = 0
-writtenNumber (Refused n) = n
-
-abbrev pub writtenLength : Written → ℕ
-writtenLength (Bytes count) = count
-writtenLength (Refused n) = 0
-
 -- ---- laws: what code has to show of its answer and of the buffer that it leaves
 
-pub writer-refuses : (rows : List Row) (bytes buffer : List ℕ) (n : ℕ) → 0 < n → refusalBy rows ≡ n → (Refused n ≡ writtenBy rows bytes) × (buffer ≡ leftBy rows bytes buffer)
+pub writer-refuses : (rows : List Row) (bytes buffer : List ℕ) (n : ℕ) → 0 < n → refusalBy rows ≡ n → (refused n ≡ writtenBy rows bytes) × (buffer ≡ leftBy rows bytes buffer)
 writer-refuses rows bytes buffer n h e =
-    (sym (gives-refusal rows (Bytes (length bytes)) Refused n h e), sym (gives-refusal rows (bytes ++ drop (length bytes) buffer) (λ (m : ℕ). buffer) n h e))
+    (sym (gives-refusal rows (wrote (length bytes)) refused n h e), sym (gives-refusal rows (bytes ++ drop (length bytes) buffer) (λ (m : ℕ). buffer) n h e))
 
-pub writer-accepts : (rows : List Row) (bytes buffer after : List ℕ) (n : ℕ) → refusalBy rows ≡ 0 → length bytes ≤ length buffer → n ≡ length bytes → after ≡ sets buffer 0 bytes → (Bytes n ≡ writtenBy rows bytes) × (after ≡ leftBy rows bytes buffer)
+pub writer-accepts : (rows : List Row) (bytes buffer after : List ℕ) (n : ℕ) → refusalBy rows ≡ 0 → length bytes ≤ length buffer → n ≡ length bytes → after ≡ sets buffer 0 bytes → (wrote n ≡ writtenBy rows bytes) × (after ≡ leftBy rows bytes buffer)
 writer-accepts rows bytes buffer after n e h l s = (
-  ap Bytes l ∙ sym (gives-asked rows (Bytes (length bytes)) Refused e),
+  ap wrote l ∙ sym (gives-asked rows (wrote (length bytes)) refused e),
   s ∙ sets-front buffer bytes h ∙ sym (gives-asked rows (bytes ++ drop (length bytes) buffer) (λ (m : ℕ). buffer) e),
 )
 
-pub written-number : (rows : List Row) (bytes : List ℕ) → writtenNumber (writtenBy rows bytes) ≡ refusalBy rows
-written-number rows bytes = gives-number rows (Bytes (length bytes)) Refused writtenNumber refl (λ n. refl)
+-- the number answered is the table's
+pub written-number : (rows : List Row) (bytes : List ℕ) → writtenBy rows bytes .number ≡ refusalBy rows
+written-number rows bytes = gives-number rows (wrote (length bytes)) refused (λ (w : Written). w .number) refl (λ n. refl)

@@ -15,8 +15,11 @@ use Rattle.postings.proofs.read_record.Tie as tie
 remaining-requires : tie.Need-remaining-requires
 remaining-requires c κs = search needs
 
+refused-requires : tie.Need-refused-requires
+refused-requires c κs = search needs
+
 returns : tie.Need-returns
-returns c = refused₁ _ _ _ (omega (arith, c .before .remaining .ensures))
+returns c = c .refused .ensures ∙ refused₁ _ _ _ (omega (arith, c .before .before .remaining .ensures))
 
 some : (c : tie.Else1) → 2 ≤ length (drop (c .before .before .before .args .place) (now (c .before .before .before .args .bytes)))
 some c = omega (arith, c .before .remaining .ensures)
@@ -33,8 +36,11 @@ shared-slice-read-bitmap c = omega (arith, some (c .before .before), length-drop
 maps-of-requires : tie.Need-maps-of-requires
 maps-of-requires c κs = search needs
 
+refused-requires-2 : tie.Need-refused-requires-2
+refused-requires-2 c κs = search needs
+
 returns-2 : tie.Need-returns-2
-returns-2 c = refused₂ _ _ _ (some (c .before .before .before .before)) (sym (c .before .maps-of .ensures) ∙ c .if2 .taken)
+returns-2 c = c .refused2 .ensures ∙ refused₂ _ _ _ (some (c .before .before .before .before .before)) (sym (c .before .before .maps-of .ensures) ∙ c .before .if2 .taken)
 
 has : (c : tie.Else2) → 0 < mapsOf (c .before .before .before .before .before .before .before .args .book) (kindAt (now (c .before .before .before .before .before .before .before .args .bytes)) (c .before .before .before .before .before .before .before .args .place))
 has c = omega (arith, c .before .maps-of .ensures, c .if2 .left)
@@ -42,8 +48,11 @@ has c = omega (arith, c .before .maps-of .ensures, c .if2 .left)
 byte : (c : tie.Else2) → mapAt (now (c .before .before .before .before .before .before .before .args .bytes)) (c .before .before .before .before .before .before .before .args .place) < 256
 byte c = omega (arith, c .before .before .before .before .before .before .shared-slice-known .given (c .before .before .before .before .before .before .before .args .place + 1))
 
+refused-requires-3 : tie.Need-refused-requires-3
+refused-requires-3 c κs = search needs
+
 returns-3 : tie.Need-returns-3
-returns-3 c = refused₃ _ _ _ (some (c .before .before .before .before .before)) (has (c .before)) (byte (c .before)) (omega (arith, c .before .before .maps-of .ensures))
+returns-3 c = c .refused3 .ensures ∙ refused₃ _ _ _ (some (c .before .before .before .before .before .before)) (has (c .before .before)) (byte (c .before .before)) (omega (arith, c .before .before .before .maps-of .ensures))
 
 record-length-requires : tie.Need-record-length-requires
 record-length-requires c κs = search needs
@@ -51,8 +60,11 @@ record-length-requires c κs = search needs
 few : (c : tie.Else3) → mapAt (now (c .before .before .before .before .before .before .before .before .args .bytes)) (c .before .before .before .before .before .before .before .before .args .place) < mapsOf (c .before .before .before .before .before .before .before .before .args .book) (kindAt (now (c .before .before .before .before .before .before .before .before .args .bytes)) (c .before .before .before .before .before .before .before .before .args .place))
 few c = omega (arith, c .before .before .maps-of .ensures)
 
+refused-requires-4 : tie.Need-refused-requires-4
+refused-requires-4 c κs = search needs
+
 returns-4 : tie.Need-returns-4
-returns-4 c = refused₄ _ _ _ (some (c .before .before .before .before .before .before .before)) (has (c .before .before .before)) (byte (c .before .before .before)) (few (c .before .before)) (omega (arith, c .before .record-length .ensures, c .before .before .before .before .before .before .before .before .remaining .ensures))
+returns-4 c = c .refused4 .ensures ∙ refused₄ _ _ _ (some (c .before .before .before .before .before .before .before .before)) (has (c .before .before .before .before)) (byte (c .before .before .before .before)) (few (c .before .before .before)) (omega (arith, c .before .before .record-length .ensures, c .before .before .before .before .before .before .before .before .before .remaining .ensures))
 
 whole : (c : tie.Else4) → recordLength (mapAt (now (c .before .before .before .before .before .before .before .before .before .before .args .bytes)) (c .before .before .before .before .before .before .before .before .before .before .args .place)) ≤ length (drop (c .before .before .before .before .before .before .before .before .before .before .args .place) (now (c .before .before .before .before .before .before .before .before .before .before .args .bytes)))
 whole c = omega (arith, c .before .record-length .ensures, c .before .before .before .before .before .before .before .before .remaining .ensures)
@@ -69,14 +81,14 @@ read-record-spec =
     tie.close
     (tie.spec
     remaining-requires
-    returns
+    refused-requires returns
     shared-slice-read-kind
     add-bitmap
     shared-slice-read-bitmap
     maps-of-requires
-    returns-2
-    returns-3
+    refused-requires-2 returns-2
+    refused-requires-3 returns-3
     record-length-requires
-    returns-4
+    refused-requires-4 returns-4
     read-fields-requires
     returns-5)

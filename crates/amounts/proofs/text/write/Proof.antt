@@ -9,7 +9,7 @@ use mir.Facts.{toZ-ofZ}
 use denote.Ref.{now}
 use borrow.Author.Needs.{needs}
 use Rattle.ints.specs.Machine.{size-read, size-most}
-use Rattle.amounts.proofs.Texts.{Measured, whole-small, length-sign, length-is, text-stored, refused, written}
+use Rattle.amounts.proofs.Texts.{Measured, whole-small, length-sign, length-is, text-stored, too-short, fits}
 use Rattle.amounts.proofs.text.write.Statement.{statement}
 use Rattle.amounts.specs.Text.{signOf}
 use Rattle.amounts.proofs.text.write.Tie as tie
@@ -51,7 +51,7 @@ measured c =
 
 returns : tie.Need-returns
 returns c = let l = length-is _ _ _ _ _ _ (measured (c .before)) in
-    refused _ _ (omega arith)
+    too-short _ _ (omega arith)
 
 put-sign-requires : tie.Need-put-sign-requires
 put-sign-requires c κs = search needs
@@ -75,7 +75,7 @@ returns-2 : tie.Need-returns-2
 returns-2 c = let m = measured (c .before .before .before .before .before .before .before .before .before .before .before .before .before) in
     let s = c .before .before .before .before .before .before .before .before .before .before .before .before .before .before .before .before .before in
     let e : _ ≡ sets (now (s .args .buffer)) 0 (signOf (s .args .amount)) = c .before .before .before .before .before .before .before .before .before .before .put-sign .ensures ∙ ap (λ (z : ℤ). sets (now (s .args .buffer)) 0 (signOf z)) (toZ-ofZ (s .fits .amount)) in
-    written _ _ _ _ (omega (arith, length-is _ _ _ _ _ _ m)) (length-is _ _ _ _ _ _ m)
+    fits _ _ _ _ (omega (arith, length-is _ _ _ _ _ _ m)) (length-is _ _ _ _ _ _ m)
     (text-stored _ _ _ _ _ _ m _ _ _ _ e (c .before .before .before .before .before .before .put-digits .ensures) (c .before .before .put-digits2 .ensures))
 
 pub write-spec : {M : Type 1} → statement M

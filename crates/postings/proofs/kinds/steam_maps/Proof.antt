@@ -1,7 +1,7 @@
--- `postings::kinds::steam_maps` is the table's number of bit maps, arm by arm. Assumes nothing.
-use native.Mathlib.Omega.{arith}
-use lib.Dec.{lit<}
-use Rattle.postings.proofs.KindTable.{maps-between, maps-above}
+-- `postings::kinds::steam_maps` is the table's number of bit maps. Assumes nothing.
+use mathlib.Core.List.{[], _∷_}
+use borrow.Author.Needs.{needs}
+use Rattle.postings.proofs.KindTable.{maps-past, table-maps}
 use Rattle.postings.proofs.kinds.steam_maps.Statement.{statement}
 use Rattle.postings.specs.Kinds.{unknownKind, fieldsOf}
 use Rattle.postings.specs.Steps.{mapsOf}
@@ -9,24 +9,14 @@ use Rattle.postings.specs.declared.Book.the-variants.{Steam}
 use Rattle.postings.proofs.kinds.steam_maps.Tie as tie
 
 returns : tie.Need-returns
-unfolding mapsOf unknownKind fieldsOf
-returns c = maps-between Steam 5 5 1 (c .before .args .kind) tt (omega arith) (omega arith) (lit< tt)
+returns c = maps-past Steam (c .before .args .kind) (c .if1 .taken)
+
+array-read-result : tie.Need-array-read-result
+array-read-result c = search needs
 
 returns-2 : tie.Need-returns-2
 unfolding mapsOf unknownKind fieldsOf
-returns-2 c = maps-between Steam 1 4 2 (c .before .before .before .args .kind) tt (omega arith) (omega arith) (lit< tt)
-
-returns-3 : tie.Need-returns-3
-unfolding mapsOf unknownKind fieldsOf
-returns-3 c = maps-between Steam 6 7 4 (c .before .before .before .before .args .kind) tt (omega arith) (omega arith) (lit< tt)
-
-returns-4 : tie.Need-returns-4
-unfolding mapsOf unknownKind fieldsOf
-returns-4 c = maps-between Steam 0 0 0 (c .before .before .args .kind) tt (omega arith) (omega arith) (lit< tt)
-
-returns-5 : tie.Need-returns-5
-unfolding mapsOf unknownKind fieldsOf
-returns-5 c = maps-above Steam 8 (c .before .before .before .before .args .kind) tt (omega arith)
+returns-2 c = table-maps Steam (0 ∷ 2 ∷ 2 ∷ 2 ∷ 2 ∷ 1 ∷ 4 ∷ 4 ∷ []) (c .before .args .kind) tt (c .if1 .left)
 
 pub steam-maps-spec : {M : Type 1} → statement M
-steam-maps-spec = tie.close (tie.spec returns returns-2 returns-3 returns-4 returns-5)
+steam-maps-spec = tie.close (tie.spec returns array-read-result returns-2)

@@ -1,6 +1,6 @@
 -- `postings::records::read_fields` is what the fields are read as, step by step. Assumes nothing.
 use mathlib.Core.Path.{_≡_, sym, ap, _∙_}
-use mathlib.Core.Bool.{Bool}
+use mathlib.Core.Bool.{Bool, _||_}
 use Prim.Native.Nat.{_+_}
 use native.Mathlib.Omega.{arith}
 use lib.IntN.{ℤ}
@@ -11,7 +11,7 @@ use denote.Ref.{now}
 use borrow.Author.Needs.{needs}
 use Rattle.postings.proofs.Reading.{next-is, bit₁, bit₂, bit₃, length-three, step₁, step₂, step₃, some-empty, none-empty}
 use Rattle.postings.proofs.records.read_fields.Statement.{statement}
-use Rattle.postings.specs.declared.Read.the-variants.{Found}
+use Rattle.postings.specs.Records.{foundAt}
 use Rattle.postings.specs.Steps.{stepAt}
 use Rattle.postings.specs.declared.records.Step.{Step}
 use Rattle.postings.proofs.records.read_fields.Tie as tie
@@ -49,29 +49,30 @@ stepped₃ c = let s = c .before .before .before .before in
 abbrev number : Step → ℤ
 number f = f .number
 
-empty-of : {f g : Step} {t : Bool} → f ≡ g → f .empty ≡ t → g .empty ≡ t
-empty-of e h = sym (ap (λ (f : Step). f .empty) e) ∙ h
+abbrev empty : Step → Bool
+empty f = f .empty
+
+refused-requires : tie.Need-refused-requires
+refused-requires c κs = search needs
 
 returns : tie.Need-returns
-returns c = some-empty _ _ _ _ (simp (empty-of (stepped₁ (c .before .before .before)) (c .if1 .taken)))
+returns c =
+    let e₁ = stepped₁ (c .before .before .before .before .before .before .before) in
+    let e₂ = stepped₂ (c .before .before .before .before .before .before) in
+    let e₃ = stepped₃ (c .before .before .before .before .before) in
+    c .refused .ensures ∙ some-empty _ _ _ _ ((λ i. sym (ap empty e₁) i || sym (ap empty e₂) i || sym (ap empty e₃) i) ∙ c .before .if1 .taken)
 
 returns-2 : tie.Need-returns-2
-returns-2 c = some-empty _ _ _ _ (simp (empty-of (stepped₁ (c .before .before .before .before)) (c .before .if1 .left), empty-of (stepped₂ (c .before .before .before)) (c .if2 .taken)))
-
-returns-3 : tie.Need-returns-3
-returns-3 c = some-empty _ _ _ _ (simp (empty-of (stepped₁ (c .before .before .before .before .before)) (c .before .before .if1 .left), empty-of (stepped₂ (c .before .before .before .before)) (c .before .if2 .left), empty-of (stepped₃ (c .before .before .before)) (c .if3 .taken)))
-
-returns-4 : tie.Need-returns-4
-returns-4 c =
-    let s = c .before .before .before .before .before .before .before .before .before .before in
-    let e₁ = stepped₁ (c .before .before .before .before .before .before .before .before) in
-    let e₂ = stepped₂ (c .before .before .before .before .before .before .before) in
-    let e₃ = stepped₃ (c .before .before .before .before .before .before) in
-    let f₁ : SFits w64 (c .before .before .before .before .before .before .before .before .step-at .result .number) = search needs in
-    let f₂ : SFits w64 (c .before .before .before .before .before .before .before .step-at2 .result .number) = search needs in
-    let f₃ : SFits w64 (c .before .before .before .before .before .before .step-at3 .result .number) = search needs in
-    (λ i. Found (record { kind = s .args .kind; first = (toZ-ofZ f₁ ∙ ap number e₁) i; second = (toZ-ofZ f₂ ∙ ap number e₂) i; third = (toZ-ofZ f₃ ∙ ap number e₃) i }) (e₃ i .next))
-    ∙ none-empty _ _ _ _ (s .pre .0) (simp (empty-of e₁ (c .before .before .before .before .before .if1 .left), empty-of e₂ (c .before .before .before .before .if2 .left), empty-of e₃ (c .before .before .before .if3 .left)))
+returns-2 c =
+    let s = c .before .before .before .before .before .before .before .before .before .before .before in
+    let e₁ = stepped₁ (c .before .before .before .before .before .before .before .before .before) in
+    let e₂ = stepped₂ (c .before .before .before .before .before .before .before .before) in
+    let e₃ = stepped₃ (c .before .before .before .before .before .before .before) in
+    let f₁ : SFits w64 (c .before .before .before .before .before .before .before .before .before .step-at .result .number) = search needs in
+    let f₂ : SFits w64 (c .before .before .before .before .before .before .before .before .step-at2 .result .number) = search needs in
+    let f₃ : SFits w64 (c .before .before .before .before .before .before .before .step-at3 .result .number) = search needs in
+    (λ i. foundAt (e₃ i .next) (record { kind = s .args .kind; first = (toZ-ofZ f₁ ∙ ap number e₁) i; second = (toZ-ofZ f₂ ∙ ap number e₂) i; third = (toZ-ofZ f₃ ∙ ap number e₃) i }))
+    ∙ none-empty _ _ _ _ (s .pre .0) ((λ i. sym (ap empty e₁) i || sym (ap empty e₂) i || sym (ap empty e₃) i) ∙ c .before .before .before .if1 .left)
 
 pub read-fields-spec : {M : Type 1} → statement M
 read-fields-spec =
@@ -81,7 +82,6 @@ read-fields-spec =
     step-at-requires
     step-at-requires-2
     step-at-requires-3
+    refused-requires
     returns
-    returns-2
-    returns-3
-    returns-4)
+    returns-2)
