@@ -4,3 +4,5 @@ pub mod FieldBytes
 pub mod BitMaps
 pub mod Reading
 pub mod Writing
+pub mod FieldTrips
+pub mod RoundTrips

@@ -3,4 +3,5 @@ pub mod Kinds
 pub mod Fields
 pub mod Records
 pub mod Answers
+pub mod RoundTrips
 pub mod Steps
