@@ -21,7 +21,7 @@ unfoldable pub widthIn : ℕ → ℕ → ℕ
 widthIn zero n = 1
 widthIn (suc more) n = cond (ltb n 10) 1 (suc (widthIn more (n / 10)))
 
--- n goes by ten fewer than n times
+-- a number has no more digits than it says, so n is room enough
 unfoldable pub widthOf : ℕ → ℕ
 unfolding widthIn
 widthOf n = widthIn n n

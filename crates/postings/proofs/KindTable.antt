@@ -6,11 +6,11 @@ use Prim.Native.Nat.{ℕ, _^_, _<_, _≤_}
 use native.Mathlib.Omega.{arith}
 use native.Mathlib.Nat.{one-le-pow}
 use lib.Dec.{T, eqb, leb, eqb→eq, leb→le, lit<}
-use lib.ListN.{length, getD}
-use borrow.Author.Tests.{ne-eqb, le-leb, lt-leb, leb-true, leb-false}
+use lib.ListN.{length, getD, List·getD-eq-default}
+use borrow.Author.Tests.{le-leb, lt-leb, leb-true, leb-false}
 use Rattle.ints.specs.Flags.{allBelow, all-below}
 use Rattle.postings.proofs.BitMaps.{beyond}
-use Rattle.postings.specs.Kinds.{fieldsOf, unknownKind, standsBeyond}
+use Rattle.postings.specs.Kinds.{Kind, unknown, kinds, kindOf, tableOf, isNone, fieldsOf, unknownKind, standsBeyond}
 use Rattle.postings.specs.Records.{bitMapOf}
 use Rattle.postings.specs.Steps.{mapsOf}
 use Rattle.postings.specs.declared.Book.{Book}
@@ -18,17 +18,9 @@ use Rattle.postings.specs.declared.Book.the-variants.{Electric, Steam}
 
 -- past the table no kind is known
 unknown-past : (book : Book) (kind : ℕ) → 8 ≤ kind → unknownKind book kind ≡ true
-unfolding unknownKind
-unknown-past book kind h = go book
-  where
-    other : (n : ℕ) → n < 8 → eqb kind n ≡ false
-    other n l = ne-eqb kind n (λ e. omega arith)
-
-    go : (b : Book) → unknownKind b kind ≡ true
-    go Electric = simp (other 1 (lit< tt), other 2 (lit< tt), other 3 (lit< tt), other 4 (lit< tt), other 5 (lit< tt), other 6 (lit< tt))
-    go Steam =
-        simp
-        (other 1 (lit< tt), other 2 (lit< tt), other 3 (lit< tt), other 4 (lit< tt), other 5 (lit< tt), other 6 (lit< tt), other 7 (lit< tt))
+unfolding unknownKind kindOf
+unknown-past Electric kind h = ap (λ (k : Kind). isNone (tableOf Electric k)) (List·getD-eq-default kinds unknown h)
+unknown-past Steam kind h = ap (λ (k : Kind). isNone (tableOf Steam k)) (List·getD-eq-default kinds unknown h)
 
 pub maps-past : (book : Book) (kind : ℕ) → 8 ≤ kind → 0 ≡ mapsOf book kind
 unfolding mapsOf
@@ -39,7 +31,7 @@ pub table-maps : (book : Book) (table : List ℕ) (kind : ℕ) → T (allBelow 8
 table-maps book table kind t h = eqb→eq (getD table kind 0) (mapsOf book kind) (all-below 8 (λ (k : ℕ). eqb (getD table k 0) (mapsOf book k)) t kind h)
 
 maps-few : (book : Book) (kind : ℕ) → kind < 8 → mapsOf book kind ≤ 8
-unfolding mapsOf unknownKind fieldsOf
+unfolding mapsOf unknownKind fieldsOf kindOf
 maps-few Electric kind h = leb→le _ _ (all-below 8 (λ (k : ℕ). leb (mapsOf Electric k) 8) tt kind h)
 maps-few Steam kind h = leb→le _ _ (all-below 8 (λ (k : ℕ). leb (mapsOf Steam k) 8) tt kind h)
 

@@ -3,7 +3,7 @@ use mathlib.Core.Bool.{cond}
 use mathlib.Core.List.{List, []}
 use Prim.Native.Nat.{ℕ, _-_, _^_}
 use lib.Dec.{ltb}
-use lib.IntN.{ℤ, pos, natAbs, _+ℤ_, negℤ}
+use lib.IntN.{ℤ, pos, natAbs, _-ℤ_}
 use lib.ListN.{take}
 use lib.Signed.{ltZ}
 use Rattle.ints.specs.Digits.{digits, value}
@@ -11,7 +11,7 @@ use Rattle.ints.specs.Machine.{eqZ}
 
 -- the number that 64 bits are: less 2^64 where the first bit stands
 unfoldable pub twosComplement : ℕ → ℤ
-twosComplement bits = cond (ltb bits (2 ^ 63)) (pos bits) (pos bits +ℤ negℤ (pos (2 ^ 64)))
+twosComplement bits = cond (ltb bits (2 ^ 63)) (pos bits) (pos bits -ℤ pos (2 ^ 64))
 
 -- the field that begins these bytes
 unfoldable pub fieldOf : List ℕ → ℤ

@@ -1,11 +1,11 @@
 -- Kinds of postings and their fields (01, Posting records): one table a book, from which the reader, the writer and refusals 2, 3 and 7
 -- are worked out.
-use mathlib.Core.Bool.{Bool, false, cond, not, _||_}
+use mathlib.Core.Bool.{Bool, true, false, not, _||_}
+use mathlib.Core.Option.{Option, none, some}
 use mathlib.Core.List.{List, [], _∷_, map}
 use Prim.Native.Nat.{ℕ, _^_}
-use lib.Dec.{eqb}
 use lib.IntN.{ℤ, pos, negℤ}
-use lib.ListN.{length, drop}
+use lib.ListN.{length, getD, drop}
 use Rattle.ints.specs.Machine.{eqZ}
 use Rattle.ints.specs.Range.{inRange}
 use Rattle.postings.specs.declared.Book.{Book}
@@ -27,48 +27,60 @@ plusMinus n = between (negℤ (pos n)) (pos n)
 abbrev level : Field
 level = between (pos 0) (pos 1)
 
-pub record Kind : Type 0 where
-  pub number : ℕ
-  pub fields : List Field
+-- the kinds of the paper's table, in the order of their numbers, which begin at 1; any other number is unknown
+pub data Kind : Type 0 where
+  cost sales bill settle monthEnd adjust reconcile unknown : Kind
 
-abbrev kind : ℕ → List Field → Kind
-kind n fields = record { number = n; fields = fields }
+abbrev pub kinds : List Kind
+kinds = unknown ∷ cost ∷ sales ∷ bill ∷ settle ∷ monthEnd ∷ adjust ∷ reconcile ∷ []
 
--- the paper's table, the field of bit 0 first
-abbrev pub kindsOf : Book → List Kind
-kindsOf Electric =
-    kind 1 (plusMinus (10 ^ 10) ∷ plusMinus (10 ^ 10) ∷ plusMinus (10 ^ 10) ∷ [])
-    ∷ kind 2 (upTo (10 ^ 10) ∷ upTo (10 ^ 10) ∷ [])
-    ∷ kind 3 (level ∷ plusMinus (10 ^ 9) ∷ [])
-    ∷ kind 4 (between (pos 1) (pos (10 ^ 10)) ∷ between (pos 1) (pos (10 ^ 10)) ∷ [])
-    ∷ kind 5 (upTo 200000 ∷ [])
-    ∷ kind 6 (level ∷ plusMinus (10 ^ 10) ∷ [])
-    ∷ []
-kindsOf Steam =
-    kind 1 (plusMinus (10 ^ 10) ∷ [])
-    ∷ kind 2 (upTo (10 ^ 8) ∷ [])
-    ∷ kind 3 (plusMinus (10 ^ 7) ∷ [])
-    ∷ kind 4 (plusMinus (10 ^ 8) ∷ [])
-    ∷ kind 5 []
-    ∷ kind 6 (plusMinus (10 ^ 10) ∷ upTo (10 ^ 11) ∷ [])
-    ∷ kind 7 (either (pos 12) (pos 24) ∷ between (pos 1) (pos (10 ^ 8)) ∷ [])
-    ∷ []
+unfoldable pub kindOf : ℕ → Kind
+kindOf n = getD kinds n unknown
 
-abbrev knownIn : List Kind → ℕ → Bool
-knownIn [] n = false
-knownIn (k ∷ kinds) n = eqb n (k .number) || knownIn kinds n
-
-abbrev fieldsIn : List Kind → ℕ → List Field
-fieldsIn [] n = []
-fieldsIn (k ∷ kinds) n = cond (eqb n (k .number)) (k .fields) (fieldsIn kinds n)
-
--- the fields of a kind of the book; none of one that the book lacks
-unfoldable pub fieldsOf : Book → ℕ → List Field
-fieldsOf book n = fieldsIn (kindsOf book) n
+-- the paper's table: the fields of each kind, that of bit 0 first; none where the book has no such kind
+abbrev pub tableOf : Book → Kind → Option (List Field)
+-- F, P, E
+tableOf Electric cost = some (plusMinus (10 ^ 10) ∷ plusMinus (10 ^ 10) ∷ plusMinus (10 ^ 10) ∷ [])
+-- secondary, primary
+tableOf Electric sales = some (upTo (10 ^ 10) ∷ upTo (10 ^ 10) ∷ [])
+-- level, u
+tableOf Electric bill = some (level ∷ plusMinus (10 ^ 9) ∷ [])
+-- Rs, Rp
+tableOf Electric settle = some (between (pos 1) (pos (10 ^ 10)) ∷ between (pos 1) (pos (10 ^ 10)) ∷ [])
+-- r
+tableOf Electric monthEnd = some (upTo 200000 ∷ [])
+-- level, amount
+tableOf Electric adjust = some (level ∷ plusMinus (10 ^ 10) ∷ [])
+tableOf Electric reconcile = none
+tableOf Electric unknown = none
+tableOf Steam cost = some (plusMinus (10 ^ 10) ∷ [])
+tableOf Steam sales = some (upTo (10 ^ 8) ∷ [])
+-- u
+tableOf Steam bill = some (plusMinus (10 ^ 7) ∷ [])
+-- b
+tableOf Steam settle = some (plusMinus (10 ^ 8) ∷ [])
+tableOf Steam monthEnd = some []
+-- n, g
+tableOf Steam adjust = some (plusMinus (10 ^ 10) ∷ upTo (10 ^ 11) ∷ [])
+-- months, D
+tableOf Steam reconcile = some (either (pos 12) (pos 24) ∷ between (pos 1) (pos (10 ^ 8)) ∷ [])
+tableOf Steam unknown = none
 
 -- 2: kind not in the table for that book
+abbrev pub isNone : Option (List Field) → Bool
+isNone none = true
+isNone (some fields) = false
+
 unfoldable pub unknownKind : Book → ℕ → Bool
-unknownKind book n = not (knownIn (kindsOf book) n)
+unknownKind book n = isNone (tableOf book (kindOf n))
+
+-- the fields of a kind, by its number
+abbrev pub orNone : Option (List Field) → List Field
+orNone none = []
+orNone (some fields) = fields
+
+unfoldable pub fieldsOf : Book → ℕ → List Field
+fieldsOf book n = orNone (tableOf book (kindOf n))
 
 -- the three numbers of a posting, and which of them are not 0
 abbrev pub numbersOf : Posting → List ℤ
