@@ -1,3 +1,3 @@
 -- Amounts of document 01: their limits and their text.
-pub mod Limits
+pub mod Amounts
 pub mod Text

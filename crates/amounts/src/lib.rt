@@ -1,7 +1,7 @@
 // Amounts: money in whole cents and factors in points, each a type of its own, with their limits and their text.
 use refusals::Written;
 ghost use mathlib.Core.Path.{_≡_};
-ghost use Rattle.amounts.specs.Limits.{centsInLimits, pointsInLimits};
+ghost use Rattle.amounts.specs.Amounts.{centsInLimits, pointsInLimits};
 ghost use Rattle.amounts.specs.Text.{centsText, pointsText, textWritten, textLeft};
 
 mod text;

@@ -7,7 +7,7 @@ ghost use lib.Seq.{sets};
 ghost use Rattle.ints.specs.Digits.{digits};
 ghost use Rattle.amounts.specs.Text.{characters, widthOf, signOf, textOf, textWritten, textLeft};
 
-// How many digits a whole number has. A comparison a digit is quicker than a division a digit.
+// How many digits a whole number has.
 fn width(n: u64) -> usize
     requires { ⌜ n < 10 ^ 18 ⌝ }
     ensures { λ r. ⌜ (r ≡ widthOf n) × (r ≤ 18) ⌝ }
@@ -39,7 +39,7 @@ fn put_digits(buffer: &mut [u8], at: usize, count: usize, n: u64)
 fn sign_length(amount: i64) -> usize
     ensures { λ r. ⌜ r ≡ length (signOf amount) ⌝ }
 {
-    if amount < 0 { 1 } else { 0 }
+    if 0 <= amount { 0 } else { 1 }
 }
 
 fn put_sign(amount: i64, buffer: &mut [u8])

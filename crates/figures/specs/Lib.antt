@@ -1,4 +1,5 @@
 -- Marked figures of document 01, one file a layer, and their joint statement.
 pub mod Figure
 pub mod Rounding
+pub mod Text
 pub mod Figures

@@ -23,27 +23,6 @@ abbrev pub Digits : ℕ → List ℕ → Type 0
 Digits base [] = Unit
 Digits base (d ∷ ds) = (d < base) × Digits base ds
 
-pub length-digits : (base count n : ℕ) → length (digits base count n) ≡ count
-unfolding digits
-length-digits base zero n = refl
-length-digits base (suc count) n =
-    length-append (digits base count (n / base)) (n % base ∷ []) ∙ omega (arith, length-digits base count (n / base))
-
--- digits in two parts
-pub digits-split : (base high low n : ℕ) → digits base (high + low) n ≡ digits base high (n / base ^ low) ++ digits base low n
-unfolding digits
-digits-split base high zero n =
-    let e : high + 0 ≡ high = omega arith in
-    let f : n ≡ n / base ^ 0 = sym (div-one n) ∙ ap (λ (k : ℕ). n / k) (sym (pow-zero base)) in
-    (λ i. digits base (e i) (f i)) ∙ sym (append-nil (digits base high (n / base ^ 0)))
-digits-split base high (suc low) n =
-    let e : high + suc low ≡ suc (high + low) = omega arith in
-    let f : n / base / base ^ low ≡ n / base ^ suc low = div-div-eq-div-mul n base (base ^ low) ∙ ap (λ (k : ℕ). n / k) (sym (pow-succ' base low)) in
-    ap (λ (k : ℕ). digits base k n) e
-    ∙ ap (λ (l : List ℕ). l ++ (n % base ∷ [])) (digits-split base high low (n / base))
-    ∙ append-assoc (digits base high (n / base / base ^ low)) (digits base low (n / base)) (n % base ∷ [])
-    ∙ ap (λ (k : ℕ). digits base high k ++ digits base (suc low) n) f
-
 -- the value of two parts
 pub value-append : (base : ℕ) (xs ys : List ℕ) → value base (xs ++ ys) ≡ value base xs * base ^ length ys + value base ys
 unfolding value
@@ -67,6 +46,27 @@ value-digits base (suc count) n b h =
 
     one-digit : n % base * base ^ 0 + 0 ≡ n % base
     one-digit = ap (λ (m : ℕ). n % base * m + 0) (pow-zero base) ∙ omega arith
+
+pub length-digits : (base count n : ℕ) → length (digits base count n) ≡ count
+unfolding digits
+length-digits base zero n = refl
+length-digits base (suc count) n =
+    length-append (digits base count (n / base)) (n % base ∷ []) ∙ omega (arith, length-digits base count (n / base))
+
+-- digits in two parts
+pub digits-split : (base high low n : ℕ) → digits base (high + low) n ≡ digits base high (n / base ^ low) ++ digits base low n
+unfolding digits
+digits-split base high zero n =
+    let e : high + 0 ≡ high = omega arith in
+    let f : n ≡ n / base ^ 0 = sym (div-one n) ∙ ap (λ (k : ℕ). n / k) (sym (pow-zero base)) in
+    (λ i. digits base (e i) (f i)) ∙ sym (append-nil (digits base high (n / base ^ 0)))
+digits-split base high (suc low) n =
+    let e : high + suc low ≡ suc (high + low) = omega arith in
+    let f : n / base / base ^ low ≡ n / base ^ suc low = div-div-eq-div-mul n base (base ^ low) ∙ ap (λ (k : ℕ). n / k) (sym (pow-succ' base low)) in
+    ap (λ (k : ℕ). digits base k n) e
+    ∙ ap (λ (l : List ℕ). l ++ (n % base ∷ [])) (digits-split base high low (n / base))
+    ∙ append-assoc (digits base high (n / base / base ^ low)) (digits base low (n / base)) (n % base ∷ [])
+    ∙ ap (λ (k : ℕ). digits base high k ++ digits base (suc low) n) f
 
 pub value-below : (base : ℕ) (ds : List ℕ) → Digits base ds → value base ds < base ^ length ds
 unfolding value

@@ -2,17 +2,17 @@
 use mathlib.Core.Path.{_≡_, refl, sym, ap, _∙_}
 use mathlib.Core.Bool.{Bool, true, false, cond}
 use mathlib.Core.List.{List}
-use Prim.Native.Nat.{ℕ, _^_, _<_, _≤_}
+use Prim.Native.Nat.{ℕ, _*_, _/_, _%_, _^_, _<_, _≤_}
 use native.Mathlib.Omega.{arith}
 use native.Mathlib.Nat.{one-le-pow}
-use lib.Dec.{T, eqb, leb, eqb→eq, leb→le, lit<}
-use lib.ListN.{length, getD, List·getD-eq-default}
+use lib.Dec.{eqb, leb, eqb→eq, leb→le, lit<}
+use lib.ListN.{length, List·getD-eq-default}
 use borrow.Author.Tests.{le-leb, lt-leb, leb-true, leb-false}
-use Rattle.ints.specs.Flags.{allBelow, all-below}
+use Rattle.ints.specs.Flags.{all-below}
 use Rattle.postings.proofs.BitMaps.{beyond}
 use Rattle.postings.specs.Kinds.{Kind, unknown, kinds, kindOf, tableOf, isNone, fieldsOf, unknownKind, standsBeyond}
 use Rattle.postings.specs.Records.{bitMapOf}
-use Rattle.postings.specs.Steps.{mapsOf}
+use Rattle.postings.specs.Steps.{mapsOf, packedOf}
 use Rattle.postings.specs.declared.Book.{Book}
 use Rattle.postings.specs.declared.Book.the-variants.{Electric, Steam}
 
@@ -26,9 +26,11 @@ pub maps-past : (book : Book) (kind : ℕ) → 8 ≤ kind → 0 ≡ mapsOf book 
 unfolding mapsOf
 maps-past book kind h = sym (ap (λ (t : Bool). cond t 0 (2 ^ length (fieldsOf book kind))) (unknown-past book kind h))
 
--- a table of the eight kinds below 8: the test computes
-pub table-maps : (book : Book) (table : List ℕ) (kind : ℕ) → T (allBelow 8 (λ (k : ℕ). eqb (getD table k 0) (mapsOf book k))) → kind < 8 → getD table kind 0 ≡ mapsOf book kind
-table-maps book table kind t h = eqb→eq (getD table kind 0) (mapsOf book kind) (all-below 8 (λ (k : ℕ). eqb (getD table k 0) (mapsOf book k)) t kind h)
+-- the code's table, each of its bytes compared with the definition: the tests compute
+pub packed-maps : (book : Book) (kind : ℕ) → kind < 8 → packedOf book / 2 ^ (8 * kind) % 256 ≡ mapsOf book kind
+unfolding mapsOf unknownKind fieldsOf kindOf
+packed-maps Electric kind h = eqb→eq _ _ (all-below 8 (λ (k : ℕ). eqb (packedOf Electric / 2 ^ (8 * k) % 256) (mapsOf Electric k)) tt kind h)
+packed-maps Steam kind h = eqb→eq _ _ (all-below 8 (λ (k : ℕ). eqb (packedOf Steam / 2 ^ (8 * k) % 256) (mapsOf Steam k)) tt kind h)
 
 maps-few : (book : Book) (kind : ℕ) → kind < 8 → mapsOf book kind ≤ 8
 unfolding mapsOf unknownKind fieldsOf kindOf

@@ -6,3 +6,4 @@ pub mod Reading
 pub mod Writing
 pub mod FieldTrips
 pub mod RoundTrips
+pub mod Examples

@@ -4,4 +4,5 @@ pub mod Fields
 pub mod Records
 pub mod Answers
 pub mod RoundTrips
+pub mod Examples
 pub mod Steps

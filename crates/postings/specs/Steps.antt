@@ -9,12 +9,18 @@ use Rattle.postings.specs.Kinds.{fieldsOf, unknownKind}
 use Rattle.postings.specs.Fields.{fieldOf}
 use Rattle.postings.specs.Records.{bitsFrom, fieldsAt, zeroPresent, postingOf, recordLength, foundAt, refusedAt}
 use Rattle.postings.specs.declared.Book.{Book}
+use Rattle.postings.specs.declared.Book.the-variants.{Electric, Steam}
 use Rattle.postings.specs.declared.Read.{Read}
 use Rattle.postings.specs.declared.records.Step.{Step}
 
 -- how many bit maps the records of a kind may have; none of a kind that the book lacks
 unfoldable pub mapsOf : Book → ℕ → ℕ
 mapsOf book kind = cond (unknownKind book kind) 0 (2 ^ length (fieldsOf book kind))
+
+-- the code's table of these numbers: a byte a kind, that of kind 0 lowest
+abbrev pub packedOf : Book → ℕ
+packedOf Electric = 0x00_04_02_04_04_04_08_00
+packedOf Steam = 0x04_04_01_02_02_02_02_00
 
 -- what a bit of the map finds at a place
 unfoldable pub stepAt : List ℕ → ℕ → Bool → Step

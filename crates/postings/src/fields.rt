@@ -19,10 +19,11 @@ fn quad_at(bytes: &[u8], at: usize) -> u64
     requires { ⌜ at + 4 ≤ length (now bytes) ⌝ }
     ensures { λ r. ⌜ (r ≡ value 256 (take 4 (drop at (now (bytes .entry))))) × (r < 4294967296) ⌝ }
 {
-    wide(bytes[at]) * 16777216
-        + wide(bytes[at + 1]) * 65536
-        + wide(bytes[at + 2]) * 256
-        + wide(bytes[at + 3])
+    let first = wide(bytes[at]);
+    let second = wide(bytes[at + 1]);
+    let third = wide(bytes[at + 2]);
+    let fourth = wide(bytes[at + 3]);
+    first * 16777216 + second * 65536 + third * 256 + fourth
 }
 
 fn bits_at(bytes: &[u8], at: usize) -> u64
@@ -58,8 +59,10 @@ fn put_pair(buffer: &mut [u8], at: usize, n: u64)
     requires { ⌜ at + 2 ≤ length (now buffer) ⌝ }
     ensures { λ r. ⌜ now (buffer .exit) ≡ sets (now (buffer .entry)) at (digits 256 2 n) ⌝ }
 {
-    buffer[at] = (n / 256 % 256) as u8;
-    buffer[at + 1] = (n % 256) as u8;
+    let high = (n / 256 % 256) as u8;
+    let low = (n % 256) as u8;
+    buffer[at] = high;
+    buffer[at + 1] = low;
 }
 
 fn put_quad(buffer: &mut [u8], at: usize, n: u64)

@@ -25,7 +25,7 @@ pub struct Posting {
 }
 
 // What reading at a place gives: 0, the next place and the posting; or the number of a refusal, the place, and a posting of kind 0,
-// which every book refuses.
+// which is a kind of no book.
 #[repr(C)]
 pub struct Read {
     pub number: u8,
@@ -58,10 +58,11 @@ pub fn read_record(book: Book, bytes: &[u8], place: usize) -> Read
     if maps == 0 {
         return records::refused(2, place);
     }
+    let length = records::record_length(bitmap);
     if maps <= bitmap {
         return records::refused(3, place);
     }
-    if remaining < records::record_length(bitmap) {
+    if remaining < length {
         return records::refused(4, place);
     }
     records::read_fields(bytes, place, kind, bitmap)
@@ -78,20 +79,20 @@ pub fn write_record(book: Book, posting: Posting, buffer: &mut [u8]) -> Written
             length: 0,
         };
     }
-    let bitmap = records::bitmap_of(posting);
-    if maps <= bitmap {
+    let bits = records::bitmap_of(posting);
+    if maps <= bits {
         return Written {
             number: 3,
             length: 0,
         };
     }
-    let length = records::record_length(bitmap);
+    let length = records::record_length(bits);
     if buffer.len() < length {
         return Written {
             number: 13,
             length: 0,
         };
     }
-    records::put_record(posting, bitmap, buffer);
+    records::put_record(posting, bits, buffer);
     Written { number: 0, length }
 }

@@ -3,6 +3,7 @@ use crate::Posting;
 use crate::Read;
 ghost use mathlib.Core.Path.{_≡_};
 ghost use Prim.Native.Nat.{_+_, _≤_, _<_};
+ghost use lib.Count.{ones};
 ghost use lib.ListN.{length, drop};
 ghost use lib.Seq.{sets};
 ghost use Rattle.postings.specs.Kinds.{numbersOf, standing};
@@ -19,11 +20,17 @@ pub(crate) fn remaining(bytes: &[u8], place: usize) -> usize
     bytes.len() - place
 }
 
-// The ones of the bit map give the number of fields, and so the record's length.
+// The ones of the bit map byte are the record's fields.
+fn field_count(bitmap: u8) -> usize
+    ensures { λ r. ⌜ (r ≡ ones bitmap) × (r ≤ 8) ⌝ }
+{
+    u8::count_ones(bitmap) as usize
+}
+
 pub(crate) fn record_length(bitmap: u8) -> usize
     ensures { λ r. ⌜ r ≡ recordLength bitmap ⌝ }
 {
-    2 + 8 * (u8::count_ones(bitmap) as usize)
+    2 + 8 * field_count(bitmap)
 }
 
 pub(crate) fn refused(number: u8, place: usize) -> Read

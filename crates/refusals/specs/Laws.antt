@@ -85,11 +85,11 @@ in-parts (r ∷ rows) more h = go (r .condition) (in-parts rows more (T-right (l
 module _ {A : Type 0} (rows : List Row) (asked : A) (refused : ℕ → A) where
   pub gives-asked : refusalBy rows ≡ 0 → byTable rows asked refused ≡ asked
   unfolding byTable
-  gives-asked e = ap (λ (n : ℕ). cond (eqb n 0) asked (refused n)) e
+  gives-asked e = simp e
 
   pub gives-refusal : (n : ℕ) → 0 < n → refusalBy rows ≡ n → byTable rows asked refused ≡ refused n
   unfolding byTable
-  gives-refusal n h e = ap (λ (m : ℕ). cond (eqb m 0) asked (refused m)) e ∙ ap (λ (t : Bool). cond t asked (refused n)) (ne-eqb n 0 (λ z. omega arith))
+  gives-refusal n h e = simp (e, ne-eqb n 0 (λ z. omega arith))
 
   -- a function that gives a refusal its number, and what was asked for 0, gives the table's number
   pub gives-number : (number : A → ℕ) → number asked ≡ 0 → ((n : ℕ) → number (refused n) ≡ n) → number (byTable rows asked refused) ≡ refusalBy rows

@@ -32,8 +32,7 @@ leftBy rows bytes buffer = byTable rows (bytes ++ drop (length bytes) buffer) (�
 -- ---- laws: what code has to show of its answer and of the buffer that it leaves
 
 pub writer-refuses : (rows : List Row) (bytes buffer : List ℕ) (n : ℕ) → 0 < n → refusalBy rows ≡ n → (refused n ≡ writtenBy rows bytes) × (buffer ≡ leftBy rows bytes buffer)
-writer-refuses rows bytes buffer n h e =
-    (sym (gives-refusal rows (wrote (length bytes)) refused n h e), sym (gives-refusal rows (bytes ++ drop (length bytes) buffer) (λ (m : ℕ). buffer) n h e))
+writer-refuses rows bytes buffer n h e = (sym (gives-refusal rows _ refused n h e), sym (gives-refusal rows _ (λ (m : ℕ). buffer) n h e))
 
 pub writer-accepts : (rows : List Row) (bytes buffer after : List ℕ) (n : ℕ) → refusalBy rows ≡ 0 → length bytes ≤ length buffer → n ≡ length bytes → after ≡ sets buffer 0 bytes → (wrote n ≡ writtenBy rows bytes) × (after ≡ leftBy rows bytes buffer)
 writer-accepts rows bytes buffer after n e h l s = (

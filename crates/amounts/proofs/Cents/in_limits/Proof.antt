@@ -7,7 +7,7 @@ use mir.Facts.{toZ-ofZ}
 use borrow.Author.Needs.{needs}
 use Rattle.ints.specs.Range.{inRange}
 use Rattle.amounts.proofs.Cents.in_limits.Statement.{statement}
-use Rattle.amounts.specs.Limits.{centsInLimits}
+use Rattle.amounts.specs.Amounts.{centsInLimits}
 use Rattle.amounts.proofs.Cents.in_limits.Tie as tie
 
 in-range-requires : tie.Need-in-range-requires

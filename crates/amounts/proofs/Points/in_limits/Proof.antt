@@ -8,7 +8,7 @@ use Rattle.ints.specs.Range.{inRange}
 use Rattle.ints.specs.Bound.{bounds, fits64}
 use Rattle.ints.specs.Exact.{exacts, wide32, exact}
 use Rattle.amounts.proofs.Points.in_limits.Statement.{statement}
-use Rattle.amounts.specs.Limits.{pointsInLimits}
+use Rattle.amounts.specs.Amounts.{pointsInLimits}
 use Rattle.amounts.proofs.Points.in_limits.Tie as tie
 
 cast-in-range : tie.Need-cast-in-range

@@ -11,13 +11,13 @@ use Rattle.amounts.proofs.text.sign_length.Tie as tie
 returns : tie.Need-returns
 unfolding signOf
 returns c = let z = c .before .args .amount in
-    let t : ltZ z (pos 0) ≡ true = omega signed in
+    let t : ltZ z (pos 0) ≡ false = omega signed in
     simp t
 
 returns-2 : tie.Need-returns-2
 unfolding signOf
 returns-2 c = let z = c .before .args .amount in
-    let t : ltZ z (pos 0) ≡ false = omega signed in
+    let t : ltZ z (pos 0) ≡ true = omega signed in
     simp t
 
 pub sign-length-spec : {M : Type 1} → statement M

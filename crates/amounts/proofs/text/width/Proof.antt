@@ -24,10 +24,10 @@ loop-less : tie.Need-loop-less Inv-loop μ-loop
 loop-less c = omega (arith, positive _ _ _ (c .before .loop .inv))
 
 loop-again : tie.Need-loop-again Inv-loop μ-loop
-loop-again c = again _ _ _ (c .before .loop .inv) (c .before .before .pre) (c .loop-test .taken)
+loop-again c = again _ _ _ (c .before .loop .inv) (c .before .before .pre) (omega arith)
 
 returns : tie.Need-returns Inv-loop μ-loop
-returns c = (done _ _ _ (c .before .loop .inv) (c .loop-test .left), c .before .loop .inv .few)
+returns c = (done _ _ _ (c .before .loop .inv) (omega arith), c .before .loop .inv .few)
 
 pub width-spec : {M : Type 1} → statement M
 width-spec =

@@ -9,14 +9,14 @@ use Rattle.ints.specs.Digits.{digits}
 use Rattle.postings.proofs.fields.put_pair.Statement.{statement}
 use Rattle.postings.proofs.fields.put_pair.Tie as tie
 
-cast-buffer : tie.Need-cast-buffer
-cast-buffer c = search needs
+cast-high : tie.Need-cast-high
+cast-high c = search needs
+
+cast-low : tie.Need-cast-low
+cast-low c = search needs
 
 slice-write-buffer : tie.Need-slice-write-buffer
 slice-write-buffer c = search needs
-
-cast-buffer-2 : tie.Need-cast-buffer-2
-cast-buffer-2 c = search needs
 
 add-buffer : tie.Need-add-buffer
 add-buffer c = search needs
@@ -36,9 +36,9 @@ pub put-pair-spec : {M : Type 1} → statement M
 put-pair-spec =
     tie.close
     (tie.spec
-    cast-buffer
+    cast-high
+    cast-low
     slice-write-buffer
-    cast-buffer-2
     add-buffer
     slice-write-buffer-2
     same-length

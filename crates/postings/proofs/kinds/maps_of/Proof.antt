@@ -1,30 +1,35 @@
--- `postings::kinds::maps_of` is the number of bit maps, by the book. Assumes nothing.
-use mathlib.Core.Path.{sym, ap, _∙_}
+-- `postings::kinds::maps_of` is the number of bit maps: every byte of its table is compared with the definition. Assumes nothing.
+use mathlib.Core.Path.{ap, _∙_}
+use Prim.Native.Nat.{ℕ, _*_, _/_, _%_, _^_}
+use native.Mathlib.Omega.{arith}
 use borrow.Author.Needs.{needs}
+use Rattle.postings.proofs.KindTable.{maps-past, packed-maps}
 use Rattle.postings.proofs.kinds.maps_of.Statement.{statement}
-use Rattle.postings.specs.declared.Book.{Book}
-use Rattle.postings.specs.Steps.{mapsOf}
 use Rattle.postings.proofs.kinds.maps_of.Tie as tie
 
-enum-told : tie.Need-enum-told
-enum-told c = search needs
-
-electric-maps-requires : tie.Need-electric-maps-requires
-electric-maps-requires c κs = search needs
-
-enum-told-2 : tie.Need-enum-told-2
-enum-told-2 c = search needs
-
-steam-maps-requires : tie.Need-steam-maps-requires
-steam-maps-requires c κs = search needs
-
 returns : tie.Need-returns
-returns c = c .electric-maps .ensures ∙ ap (λ (b : Book). mapsOf b (c .before .before .before .args .kind)) (sym (c .before .enum-told .given .1))
+returns c = maps-past _ _ (c .if1 .taken)
+
+packed-of-requires : tie.Need-packed-of-requires
+packed-of-requires c κs = search needs
+
+mul-result : tie.Need-mul-result
+mul-result c = search needs
+
+cast-result : tie.Need-cast-result
+cast-result c = search needs
+
+shr-result : tie.Need-shr-result
+shr-result c = search needs
+
+cast-result-2 : tie.Need-cast-result-2
+cast-result-2 c = search needs
 
 returns-2 : tie.Need-returns-2
-returns-2 c = c .steam-maps .ensures ∙ ap (λ (b : Book). mapsOf b (c .before .before .before .args .kind)) (sym (c .before .enum-told2 .given .1))
+returns-2 c = let s = c .before .before .args in
+    ap (λ (n : ℕ). n / 2 ^ (8 * s .kind) % 256) (c .packed-of .ensures) ∙ packed-maps (s .book) (s .kind) (omega arith)
 
 pub maps-of-spec : {M : Type 1} → statement M
 maps-of-spec =
     tie.close
-    (tie.spec enum-told electric-maps-requires enum-told-2 steam-maps-requires returns returns-2)
+    (tie.spec returns packed-of-requires mul-result cast-result shr-result cast-result-2 returns-2)

@@ -1,23 +1,23 @@
--- `postings::records::record_length` is the record's length: a byte has at most 8 ones. Assumes nothing.
-use mathlib.Core.Path.{refl}
-use native.Mathlib.Omega.{arith}
-use lib.Count.{ones-le}
+-- `postings::records::record_length` is the record's length. Assumes nothing.
+use mathlib.Core.Path.{ap}
+use Prim.Native.Nat.{ℕ, _+_, _*_}
+use borrow.Author.Needs.{needs}
 use Rattle.postings.proofs.records.record_length.Statement.{statement}
 use Rattle.postings.specs.Records.{recordLength}
 use Rattle.postings.proofs.records.record_length.Tie as tie
 
-cast-result : tie.Need-cast-result
-cast-result c = omega (arith, ones-le 8 (c .args .bitmap) (omega arith))
+field-count-requires : tie.Need-field-count-requires
+field-count-requires c κs = search needs
 
 mul-result : tie.Need-mul-result
-mul-result c = omega (arith, ones-le 8 (c .args .bitmap) (omega arith))
+mul-result c = search needs
 
 add-result : tie.Need-add-result
-add-result c = omega (arith, ones-le 8 (c .args .bitmap) (omega arith))
+add-result c = search needs
 
 returns : tie.Need-returns
 unfolding recordLength
-returns c = refl
+returns c = ap (λ (k : ℕ). 2 + 8 * k) (c .field-count .ensures .0)
 
 pub record-length-spec : {M : Type 1} → statement M
-record-length-spec = tie.close (tie.spec cast-result mul-result add-result returns)
+record-length-spec = tie.close (tie.spec field-count-requires mul-result add-result returns)

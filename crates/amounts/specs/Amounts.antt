@@ -1,0 +1,18 @@
+-- Amounts (01, Amounts and rounding), and what a book may store of them (01, Posting records): cents in ±10^12, factors in ±99,999.
+use mathlib.Core.Bool.{Bool}
+use lib.IntN.{ℤ, pos, negℤ}
+use Rattle.ints.specs.Range.{inRange}
+use Rattle.amounts.specs.declared.Cents.{Cents}
+use Rattle.amounts.specs.declared.Points.{Points}
+
+abbrev pub cents : ℤ → Cents
+cents z = record { 0 = z }
+
+abbrev pub points : ℤ → Points
+points z = record { 0 = z }
+
+unfoldable pub centsInLimits : Cents → Bool
+centsInLimits amount = inRange (negℤ (pos 1000000000000)) (pos 1000000000000) (amount .0)
+
+unfoldable pub pointsInLimits : Points → Bool
+pointsInLimits amount = inRange (negℤ (pos 99999)) (pos 99999) (amount .0)
