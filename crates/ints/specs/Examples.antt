@@ -2,9 +2,13 @@
 -- Assumes nothing.
 use mathlib.Core.Path.{_≡_}
 use mathlib.Core.Bool.{true, false}
+use Prim.Native.Nat.{ℕ, _*_, _<_}
 use native.Mathlib.Omega.{arith}
+use lib.Dec.{T, leb}
 use lib.IntN.{ℤ, pos, _+ℤ_, _-ℤ_, _*ℤ_}
 use lib.Signed.{leZ, ltZ, _≤ℤ_, _<ℤ_}
+use Rattle.ints.specs.Flags.{all-below}
+use Rattle.ints.specs.Digits.{digits, value, value-digits}
 use Rattle.ints.specs.Difference.{differences, split}
 use Rattle.ints.specs.Ring.{_:+_, _:-_, _:*_, _:=_, #, solve, eq-by}
 use Rattle.ints.specs.Order.{signed, sum, diff, prod}
@@ -67,3 +71,12 @@ order-to-outcome x h = omega signed
 
 narrower-range : (x : ℤ) → inRange (pos 1) (pos 9) x ≡ true → inRange (pos 0) (pos 10) x ≡ true
 narrower-range x e = let h = inRange-true (pos 1) (pos 9) x e in inRange-yes (pos 0) (pos 10) x (omega signed)
+
+-- ---- digits and tables
+
+three-digits : (n : ℕ) → n < 1000 → value 10 (digits 10 3 n) ≡ n
+three-digits n h = value-digits 10 3 n (omega arith) h
+
+-- a fact of every number below a numeral, by a test that computes
+below-its-double : (k : ℕ) → k < 12 → T (leb k (2 * k))
+below-its-double k h = all-below 12 (λ (n : ℕ). leb n (2 * n)) tt k h

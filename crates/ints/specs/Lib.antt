@@ -1,6 +1,6 @@
 -- Laws of the integers, for proofs over signed code. In a contract an i64 is a ℤ; what the machine reads back from the bits of z is
--- `toZ w64 (ofZ w64 z)`. Which law to use when, in which module, and a checked example of it: in Examples.antt or, for what code
--- asks of its proof, in src/examples.rt with the line that closes it under proofs/examples/.
+-- `toZ w64 (ofZ w64 z)`. Which law to use when, in which module, and a checked example of most: in Examples.antt or, for what
+-- code asks of its proof, in src/examples.rt with the line that closes it under proofs/examples/.
 --
 --   to show                                 write                                                   module      example
 --   an equation of sums and products        solve 3 (λ x y z. .. := ..) tt x y z                    Ring        products
@@ -18,12 +18,14 @@
 --   that a cast to an unsigned type fits    to-unsigned (c .fits .x) (omega signed) tt              Machine     counted
 --   what `<`, `<=` tested                   omega signed, of fields with their SFits at hand        Order       not_below_zero, at_most
 --   what `==` tested                        eq-bits f g (c .if1 .taken)                             Machine     first_if_equal
---   .. of a number and 0                    eq-bits f zero64 (c .if1 .taken)                         Machine     postings::fields::put_field
+--   .. of a number and 0                    eq-bits f zero64 (c .if1 .taken)                        Machine
 --   that `==` is a result                   eqZ-bits f g                                            Machine     same
 --   what a function tested of a number      tested p f (c .. .ensures) (c .if1 .taken)              Machine     kept
 --   .. where the code tests its negation    tested-not p f (c .. .ensures) (c .if1 .left)           Machine     kept
---   that `size` gave a number's size        size-read (c .fits .x) (c .size .ensures)                Machine     amounts::text::write
+--   that `size` gave a number's size        size-read (c .fits .x) (c .size .ensures)               Machine
 --   that a call is handed on                handed-on f r p q (c .. .ok) (c .. .ensures)            Machine     handed
+--   that digits make their number, and back value-digits base n .., digits-value base ds ..         Digits      three-digits
+--   a fact of every number below a numeral  all-below 12 f tt k h                                   Flags       below-its-double
 pub mod Flags
 pub mod Difference
 pub mod Ring

@@ -33,6 +33,7 @@ pub(crate) fn record_length(bitmap: u8) -> usize
     2 + 8 * field_count(bitmap)
 }
 
+// What a refused reading gives.
 pub(crate) fn refused(number: u8, place: usize) -> Read
     ensures { λ r. ⌜ r ≡ refusedAt place number ⌝ }
 {

@@ -1,71 +1,13 @@
-//! Compares the proved reader and writer of posting records with the twin's.
+//! Readings: valid, damaged and cut records, random bytes, every place.
 
-#![forbid(unsafe_code)]
-
-mod common;
-
-use common::{seeded, write_around, Answers, ToWrite};
+use crate::common::{seeded, ToWrite};
+use crate::postings::{fields, kinds, nonzero, number_of, posting_of, record_of, Entry, BOOKS};
 use twin::random::Random;
 use twin::records::{Book, Posting, Read};
-use twin::written::{Refusal, Written, BUFFER_TOO_SHORT};
+use twin::written::{Refusal, Written};
 use twin::{proved, records};
 
 const RANDOM_CASES: usize = 1_000_000;
-
-const BOOKS: [Book; 2] = [Book::Electric, Book::Steam];
-
-/// The fields of a kind by the paper's table, bit 0 first.
-fn fields(book: Book, kind: u8) -> Option<&'static [&'static str]> {
-    Some(match (book, kind) {
-        (Book::Electric, 1) => &["F", "P", "E"],
-        (Book::Electric, 2) => &["secondary", "primary"],
-        (Book::Electric, 3) => &["level", "u"],
-        (Book::Electric, 4) => &["Rs", "Rp"],
-        (Book::Electric, 5) => &["r"],
-        (Book::Electric, 6) => &["level", "amount"],
-        (Book::Steam, 1) => &["cost"],
-        (Book::Steam, 2) => &["sales"],
-        (Book::Steam, 3) => &["u"],
-        (Book::Steam, 4) => &["b"],
-        (Book::Steam, 5) => &[],
-        (Book::Steam, 6) => &["n", "g"],
-        (Book::Steam, 7) => &["months", "D"],
-        _ => return None,
-    })
-}
-
-/// The kinds that the book has.
-fn kinds(book: Book) -> &'static [u8] {
-    match book {
-        Book::Electric => &[1, 2, 3, 4, 5, 6],
-        Book::Steam => &[1, 2, 3, 4, 5, 6, 7],
-    }
-}
-
-/// The record of a posting, byte by byte.
-fn record_of(posting: &Posting) -> Vec<u8> {
-    let mut record = vec![posting.kind, 0];
-    for (bit, &number) in posting.numbers.iter().enumerate() {
-        if number != 0 {
-            record[1] += [1, 2, 4][bit];
-            record.extend((0..8).map(|byte| (number >> (56 - 8 * byte)) as u8));
-        }
-    }
-    record
-}
-
-/// A field's number: its bytes as digits, the highest first, less 2^64 from 2^63 on.
-fn number_of(field: &[u8]) -> i64 {
-    let digits = field.iter().map(|&byte| i128::from(byte));
-    let magnitude = digits.fold(0, |number, byte| 256 * number + byte);
-    let sign_limit = 1_i128 << 63;
-    let number = if magnitude < sign_limit {
-        magnitude
-    } else {
-        magnitude - 2 * sign_limit
-    };
-    i64::try_from(number).expect("a field has 64 bits")
-}
 
 /// What the paper wants of a reading, refusal after refusal.
 fn expected_read(book: Book, bytes: &[u8], place: usize) -> Read {
@@ -98,34 +40,6 @@ fn expected_read(book: Book, bytes: &[u8], place: usize) -> Read {
     Read::Found {
         posting,
         next: place + length,
-    }
-}
-
-/// A posting to be written for a book.
-#[derive(Clone, Copy, Debug)]
-struct Entry {
-    book: Book,
-    posting: Posting,
-}
-
-impl ToWrite for Entry {
-    fn write_proved(&self, buffer: &mut [u8]) -> Written {
-        proved::write_record(self.book, self.posting, buffer)
-    }
-
-    fn write_twin(&self, buffer: &mut [u8]) -> Written {
-        records::write_record(self.book, self.posting, buffer)
-    }
-
-    fn expected(&self) -> Result<Vec<u8>, Refusal> {
-        let Some(fields) = fields(self.book, self.posting.kind) else {
-            return Err(2);
-        };
-        let lacked = &self.posting.numbers[fields.len()..];
-        if lacked.iter().any(|&number| number != 0) {
-            return Err(3);
-        }
-        Ok(record_of(&self.posting))
     }
 }
 
@@ -210,31 +124,6 @@ fn write_back(entry: Entry, record: &[u8], origin: &str) {
             "{entry:?} written back, {origin}"
         );
     }
-}
-
-/// A number that is not 0: small or large, of either sign, at an end, or with one byte alone.
-fn nonzero(random: &mut Random) -> i64 {
-    match random.below(8) {
-        0 => random.one_of(&[1, -1, i64::MIN, i64::MAX]),
-        1 => random.within(1, 255) << (8 * random.below(8)),
-        _ => match random.signed_of_any_length() {
-            0 => -256,
-            number => number,
-        },
-    }
-}
-
-/// A posting that has a record, each of its fields 0 or not.
-fn posting_of(book: Book, random: &mut Random) -> Posting {
-    let kind = random.one_of(kinds(book));
-    let count = fields(book, kind).map_or(0, <[_]>::len);
-    let mut numbers = [0; 3];
-    for number in &mut numbers[..count] {
-        if random.coin() {
-            *number = nonzero(random);
-        }
-    }
-    Posting { kind, numbers }
 }
 
 fn random_bytes(random: &mut Random, most: usize) -> Vec<u8> {
@@ -482,53 +371,4 @@ fn nothing_is_read_of_no_bytes() {
             readings.expect(refused, book, &[], place);
         }
     }
-}
-
-/// Holds a writer to its four answers, each met at least so often for either book.
-fn writer_met(met: &[Answers; 2], least: usize) {
-    for (book, answers) in BOOKS.iter().zip(met) {
-        for (answer, &count) in answers.iter().enumerate() {
-            let enough = match [0, 2, 3, BUFFER_TOO_SHORT].contains(&answer) {
-                true => count >= least,
-                false => count == 0,
-            };
-            assert!(enough, "answer {answer} of {book:?} met {count} times");
-        }
-    }
-}
-
-#[test]
-fn writings_of_every_kind_and_pattern_agree() {
-    let (mut random, origin) = seeded(9);
-    let mut met = [Answers::default(); 2];
-    for _ in 0..20 {
-        for (kind, pattern) in (0..=255).flat_map(|kind| (0..8).map(move |bits| (kind, bits))) {
-            let present = [0, 1, 2].map(|bit| pattern >> bit & 1);
-            let numbers = present.map(|bit| bit * nonzero(&mut random));
-            let posting = Posting { kind, numbers };
-            for book in BOOKS {
-                let entry = Entry { book, posting };
-                write_around(&entry, &mut random, &mut met[book as usize], &origin);
-            }
-        }
-    }
-    writer_met(&met, 1_000);
-}
-
-#[test]
-fn writings_of_random_postings_agree() {
-    let (mut random, origin) = seeded(10);
-    let mut met = [Answers::default(); 2];
-    for case in 0..RANDOM_CASES {
-        let book = BOOKS[case % 2];
-        let mut posting = posting_of(book, &mut random);
-        match random.below(8) {
-            0 => posting.kind = random.bits() as u8,
-            1 => posting.numbers[random.below(3)] = nonzero(&mut random),
-            _ => {}
-        }
-        let entry = Entry { book, posting };
-        write_around(&entry, &mut random, &mut met[book as usize], &origin);
-    }
-    writer_met(&met, 10_000);
 }
