@@ -14,7 +14,6 @@ use mir.Val.{SFits, toZ, ofZ}
 use mir.Facts.{toZ-ofZ}
 use Rattle.ints.specs.Flags.{T-true, T-false, true-T, false-T}
 use Rattle.ints.specs.Difference.{over, under, neg-over, neg-under, le-parts, lt-parts, parts-le, parts-lt, balanced}
-
 pub use Rattle.ints.specs.Difference.{sum, prod}
 
 -- ---- the parts of a negation and of a difference, beside those of a sum and a product
