@@ -6,11 +6,12 @@ use Prim.Native.Nat.{ℕ, zero, suc, _+_, _-_, _*_, _/_, _%_, _^_, _<_, _≤_}
 use native.Mathlib.Omega.{arith}
 use native.Mathlib.Nat.{div-lt-iff-lt-mul}
 use lib.IntN.{ℤ, pos, natAbs}
-use lib.Signed.{ltZ}
+use lib.Signed.{ltZ, _≤ℤ_, _<ℤ_}
 use lib.ListN.{length, set, length-map, length-append}
 use lib.Seq.{sets}
 use borrow.Author.Tests.{lt-ltb, le-ltb}
 use Rattle.ints.specs.Digits.{digits, length-digits}
+use Rattle.ints.specs.Order.{signed}
 use Rattle.refusals.specs.Laws.{at-row, accepted}
 use Rattle.refusals.specs.Stores.{sets-last, sets-append}
 use Rattle.refusals.specs.Writer.{wrote, refused, tooShort, writer-refuses, writer-accepts}
@@ -44,6 +45,18 @@ whole-small size unit h k =
     let some : 0 < unit = omega arith in
     let enough : size < 10 ^ 18 * unit = omega arith in
     div-lt-iff-lt-mul some .1 enough
+
+pub minus : (z : ℤ) → z <ℤ pos 0 → signOf z ≡ 45 ∷ []
+unfolding signOf
+minus z h =
+    let t : ltZ z (pos 0) ≡ true = omega signed in
+    simp t
+
+pub no-minus : (z : ℤ) → pos 0 ≤ℤ z → signOf z ≡ []
+unfolding signOf
+no-minus z h =
+    let t : ltZ z (pos 0) ≡ false = omega signed in
+    simp t
 
 pub length-sign : (z : ℤ) (n : ℕ) → n ≡ length (signOf z) → n ≤ 1
 unfolding signOf
