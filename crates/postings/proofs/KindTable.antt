@@ -1,16 +1,17 @@
 -- How many bit maps a kind of either book may have, and what that number tells. Assumes nothing.
 use mathlib.Core.Path.{_≡_, refl, sym, ap, _∙_}
-use mathlib.Core.Bool.{Bool, true, false, cond}
-use mathlib.Core.List.{List}
+use mathlib.Core.Bool.{Bool, true, false, cond, true≢false}
+use mathlib.Core.Option.{Option, none, some}
+use mathlib.Core.List.{List, []}
 use Prim.Native.Nat.{ℕ, _*_, _/_, _%_, _^_, _<_, _≤_}
 use native.Mathlib.Omega.{arith}
 use native.Mathlib.Nat.{one-le-pow}
 use lib.Dec.{eqb, leb, eqb→eq, leb→le, lit<}
 use lib.ListN.{length, List·getD-eq-default}
-use borrow.Author.Tests.{le-leb, lt-leb, leb-true, leb-false}
+use borrow.Author.Tests.{eqb-true, eqb-false, le-leb, lt-leb, leb-true, leb-false}
 use Rattle.ints.specs.Flags.{all-below}
 use Rattle.postings.proofs.BitMaps.{beyond}
-use Rattle.postings.specs.Kinds.{Kind, unknown, kinds, kindOf, tableOf, isNone, fieldsOf, unknownKind, standsBeyond}
+use Rattle.postings.specs.Kinds.{Field, orNone, Kind, unknown, kinds, kindOf, tableOf, isNone, fieldsOf, unknownKind, standsBeyond}
 use Rattle.postings.specs.Records.{bitMapOf}
 use Rattle.postings.specs.Steps.{mapsOf, packedOf}
 use Rattle.postings.specs.declared.Book.{Book}
@@ -60,6 +61,23 @@ module _ (book : Book) (kind : ℕ) where
           absurd (omega arith)
       go false u = u
 
+  pub maps-test : eqb (mapsOf book kind) 0 ≡ unknownKind book kind
+  maps-test = go (eqb (mapsOf book kind) 0) refl
+    where
+      go : (t : Bool) → eqb (mapsOf book kind) 0 ≡ t → eqb (mapsOf book kind) 0 ≡ unknownKind book kind
+      go true e = e ∙ sym (maps-none (eqb-true (mapsOf book kind) 0 e))
+      go false e =
+          let h : 0 < mapsOf book kind = omega (arith, eqb-false (mapsOf book kind) 0 e) in
+          e ∙ sym (maps-some h)
+
+  pub no-fields : unknownKind book kind ≡ true → fieldsOf book kind ≡ []
+  unfolding unknownKind fieldsOf
+  no-fields u = go (tableOf book (kindOf kind)) u
+    where
+      go : (o : Option (List Field)) → isNone o ≡ true → orNone o ≡ []
+      go none e = refl
+      go (some fields) e = absurd (true≢false (sym e))
+
   pub maps-are : unknownKind book kind ≡ false → mapsOf book kind ≡ 2 ^ length (fieldsOf book kind)
   unfolding mapsOf
   maps-are u = ap (λ (t : Bool). cond t 0 (2 ^ length (fieldsOf book kind))) u
@@ -74,7 +92,7 @@ module _ (book : Book) (kind : ℕ) where
 
   -- a bit that the kind lacks makes a map too large
   module _ (bits : List Bool) (known : unknownKind book kind ≡ false) where
-    lacks : standsBeyond (fieldsOf book kind) bits ≡ leb (mapsOf book kind) (bitMapOf bits)
+    pub lacks : standsBeyond (fieldsOf book kind) bits ≡ leb (mapsOf book kind) (bitMapOf bits)
     unfolding standsBeyond
     lacks = beyond (length (fieldsOf book kind)) bits ∙ ap (λ (n : ℕ). leb n (bitMapOf bits)) (sym (maps-are known))
 

@@ -1,6 +1,7 @@
 -- Laws of the records' definitions, over plain numbers and lists, that the proofs of the code and of the round trips cite.
 pub mod KindTable
 pub mod FieldBytes
+pub mod FieldRanges
 pub mod BitMaps
 pub mod Reading
 pub mod Writing

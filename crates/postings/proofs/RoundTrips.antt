@@ -17,7 +17,7 @@ use Rattle.postings.proofs.BitMaps.{count, map-of-bits, bits-of-map, ma
 use Rattle.postings.proofs.KindTable.{maps-most, none-beyond, small-map}
 use Rattle.postings.proofs.FieldTrips.{fields-read, none-zero, standing-read, fields-written, digits-drop}
 use Rattle.postings.proofs.Writing.{length-record}
-use Rattle.postings.specs.Kinds.{fieldsOf, unknownKind, numbersOf, standing, standsBeyond}
+use Rattle.postings.specs.Kinds.{fieldsOf, unknownKind, numbersOf, standing, standsBeyond, strayNumber}
 use Rattle.postings.specs.Records.{recordLength, kindIn, bitMapIn, bitsFrom, fieldsAt, numbersIn, zeroPresent, readingRows, postingOf, foundAt, refusedAt, readOf, read-number, bitMapOf, fieldBytes, recordOf, writingRows, recordWritten, recordLeft}
 use Rattle.postings.specs.RoundTrips.{InWords, WrittenIsRead, ReadIsWritten}
 use Rattle.postings.specs.Steps.{mapsOf}
@@ -75,7 +75,7 @@ module _ (book : Book) (p : Posting) (before after : List ℕ) (words : InWords 
       readRest rest = byTable (readingRows book rest) (foundAt (length before + recordLength (bitMapIn rest)) (postingOf (kindIn rest) (numbersIn rest))) (refusedAt (length before))
 
 pub written-is-read : WrittenIsRead
-unfolding recordWritten recordLeft
+unfolding recordWritten recordLeft strayNumber
 written-is-read book p before buffer n words e =
     let rows = writingRows book p buffer in
     let none : refusalBy rows ≡ 0 = sym (written-number rows (recordOf p)) ∙ ap (λ (w : Written). w .number) e in
@@ -159,7 +159,7 @@ module _ (book : Book) (rest : List ℕ) (d : Digits 256 rest) (pass : NoneHolds
       sym (ap (take (recordLength bitMap)) (sym kept) ∙ take-at (recordOf q) after (recordLength bitMap) long)
 
   kept-is-written : (buffer : List ℕ) → recordLength bitMap ≤ length buffer → (recordWritten book q buffer ≡ wrote (recordLength bitMap)) × (recordLeft book q buffer ≡ take (recordLength bitMap) rest ++ drop (recordLength bitMap) buffer)
-  unfolding recordWritten recordLeft tooShort
+  unfolding recordWritten recordLeft tooShort strayNumber
   kept-is-written buffer h =
       let rows = writingRows book q buffer in
       let stands = none-beyond book kind (standing (numbersOf q)) (pass .1 .0) (omega (arith, map-kept, small)) in

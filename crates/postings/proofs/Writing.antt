@@ -17,7 +17,7 @@ use Rattle.refusals.specs.Stores.{sets-append}
 use Rattle.refusals.specs.Writer.{wrote, refused, tooShort, writer-refuses, writer-accepts}
 use Rattle.postings.proofs.BitMaps.{count, ones-of-map}
 use Rattle.postings.proofs.KindTable.{maps-none, maps-some, stands-beyond, none-beyond}
-use Rattle.postings.specs.Kinds.{fieldsOf, unknownKind, numbersOf, standing, standsBeyond}
+use Rattle.postings.specs.Kinds.{fieldsOf, unknownKind, numbersOf, standing, standsBeyond, strayNumber}
 use Rattle.postings.specs.Fields.{bitsOf, bytesOf}
 use Rattle.postings.specs.Records.{recordLength, bitMapOf, fieldBytes, recordOf, writingRows, recordWritten, recordLeft}
 use Rattle.postings.specs.Steps.{mapsOf, bitOf}
@@ -101,6 +101,7 @@ module _ (book : Book) (p : Posting) (buffer : List ℕ) where
     known = maps-some book (p .kind) has
 
     pub refused₃ : mapsOf book (p .kind) ≤ bitMapOf bits → (refused 3 ≡ recordWritten book p buffer) × (buffer ≡ recordLeft book p buffer)
+    unfolding strayNumber
     refused₃ h = by-row 3 (lit< tt) (past-row 2 _ known ∙ at-row 3 _ (stands-beyond book (p .kind) bits known h))
 
     module _ (few : bitMapOf bits < mapsOf book (p .kind)) where
@@ -108,10 +109,10 @@ module _ (book : Book) (p : Posting) (buffer : List ℕ) where
       none = none-beyond book (p .kind) bits known few
 
       pub refused₁₃ : length buffer < length (recordOf p) → (refused 13 ≡ recordWritten book p buffer) × (buffer ≡ recordLeft book p buffer)
-      unfolding tooShort
+      unfolding tooShort strayNumber
       refused₁₃ h = by-row 13 (lit< tt) (past-row 2 _ known ∙ past-row 3 _ none ∙ at-row 13 [] (lt-ltb (length buffer) (length (recordOf p)) h))
 
       pub written : (after : List ℕ) (n : ℕ) → length (recordOf p) ≤ length buffer → n ≡ length (recordOf p) → after ≡ sets buffer 0 (recordOf p) → (wrote n ≡ recordWritten book p buffer) × (after ≡ recordLeft book p buffer)
-      unfolding tooShort recordWritten recordLeft
+      unfolding tooShort recordWritten recordLeft strayNumber
       written after n h e s =
           writer-accepts rows (recordOf p) buffer after n (accepted rows (known, (none, (le-ltb (length buffer) (length (recordOf p)) h, tt)))) h e s

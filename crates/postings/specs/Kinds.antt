@@ -1,6 +1,6 @@
 -- Kinds of postings and their fields (01, Posting records): one table a book, from which the reader, the writer and refusals 2, 3 and 7
 -- are worked out.
-use mathlib.Core.Bool.{Bool, true, false, not, _||_}
+use mathlib.Core.Bool.{Bool, true, false, not, _&&_, _||_}
 use mathlib.Core.Option.{Option, none, some}
 use mathlib.Core.List.{List, [], _∷_, map}
 use Prim.Native.Nat.{ℕ, _^_}
@@ -97,12 +97,19 @@ anyStands (bit ∷ bits) = bit || anyStands bits
 unfoldable pub standsBeyond : List Field → List Bool → Bool
 standsBeyond fields bits = anyStands (drop (length fields) bits)
 
+unfoldable pub strayNumber : Book → Posting → Bool
+strayNumber book p = standsBeyond (fieldsOf book (p .kind)) (standing (numbersOf p))
+
 abbrev allows : Field → ℤ → Bool
 allows (between low high) z = inRange low high z
 allows (either x y) z = eqZ z x || eqZ z y
 
+-- each number is one that its field may hold
+abbrev pub inFields : List Field → List ℤ → Bool
+inFields [] numbers = true
+inFields (f ∷ fields) [] = true
+inFields (f ∷ fields) (z ∷ numbers) = allows f z && inFields fields numbers
+
 -- 7: field out of range
-unfoldable pub outOfRange : List Field → List ℤ → Bool
-outOfRange [] numbers = false
-outOfRange (f ∷ fields) [] = false
-outOfRange (f ∷ fields) (z ∷ numbers) = not (allows f z) || outOfRange fields numbers
+unfoldable pub outOfRange : Book → Posting → Bool
+outOfRange book p = not (inFields (fieldsOf book (p .kind)) (numbersOf p))

@@ -12,7 +12,7 @@ use Rattle.refusals.specs.Rows.{Row, row, refusalBy, byTable}
 use Rattle.refusals.specs.Laws.{gives-number}
 use Rattle.refusals.specs.Writer.{tooShort, writtenBy, leftBy}
 use Rattle.refusals.specs.declared.Written.{Written}
-use Rattle.postings.specs.Kinds.{fieldsOf, unknownKind, numbersOf, standing, standsBeyond}
+use Rattle.postings.specs.Kinds.{fieldsOf, unknownKind, numbersOf, standing, standsBeyond, strayNumber}
 use Rattle.postings.specs.Fields.{fieldOf, bytesOf}
 use Rattle.postings.specs.declared.Book.{Book}
 use Rattle.postings.specs.declared.Posting.{Posting}
@@ -103,7 +103,7 @@ recordOf p = (p .kind) ∷ bitMapOf (standing (numbersOf p)) ∷ fieldBytes (num
 abbrev pub writingRows : Book → Posting → List ℕ → List Row
 writingRows book p buffer =
     row 2 (unknownKind book (p .kind))
-    ∷ row 3 (standsBeyond (fieldsOf book (p .kind)) (standing (numbersOf p)))
+    ∷ row 3 (strayNumber book p)
     ∷ row 13 (tooShort (recordOf p) buffer)
     ∷ []
 

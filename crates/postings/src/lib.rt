@@ -3,10 +3,12 @@ use amounts::Cents;
 use amounts::Points;
 use refusals::Written;
 ghost use mathlib.Core.Path.{_≡_};
+ghost use Rattle.postings.specs.Kinds.{unknownKind, strayNumber, outOfRange};
 ghost use Rattle.postings.specs.Records.{readOf, recordWritten, recordLeft};
 
 mod fields;
 mod kinds;
+mod ranges;
 mod records;
 
 // Which book a posting is for: the electric one (fuel adjustment) or the steam one (quarterly cost adjustment).
@@ -42,6 +44,35 @@ pub enum Answer {
     Interest(Cents, Cents),
     Done,
     Refused(u8),
+}
+
+// Refusal 2: the book has no such kind.
+pub fn unknown_kind(book: Book, posting: Posting) -> bool
+    ensures { λ r. ⌜ r ≡ unknownKind book (posting .kind) ⌝ }
+{
+    kinds::maps_of(book, posting.kind) == 0
+}
+
+// Refusal 3: a number that is not 0 and that the kind lacks.
+pub fn stray_number(book: Book, posting: Posting) -> bool
+    ensures { λ r. ⌜ r ≡ strayNumber book posting ⌝ }
+{
+    let bits = records::bitmap_of(posting);
+    let maps = kinds::maps_of(book, posting.kind);
+    if maps == 0 {
+        return 0 < bits;
+    }
+    maps <= bits
+}
+
+// Refusal 7: a number that its field may not hold.
+pub fn out_of_range(book: Book, posting: Posting) -> bool
+    ensures { λ r. ⌜ r ≡ outOfRange book posting ⌝ }
+{
+    match book {
+        Book::Electric => !ranges::electric_in_fields(posting),
+        Book::Steam => !ranges::steam_in_fields(posting),
+    }
 }
 
 // Reads the record at a place of the bytes.
