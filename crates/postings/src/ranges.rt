@@ -27,19 +27,18 @@ fn third_in(posting: Posting, low: i64, high: i64) -> bool
 pub(crate) fn electric_in_fields(posting: Posting) -> bool
     ensures { λ r. ⌜ r ≡ inFields (fieldsOf Book.Electric (posting .kind)) (numbersOf posting) ⌝ }
 {
-    let p = posting;
     let kind = posting.kind;
     match kind {
         1 => {
-            first_in(p, -10_000_000_000, 10_000_000_000)
-                & second_in(p, -10_000_000_000, 10_000_000_000)
-                & third_in(p, -10_000_000_000, 10_000_000_000)
+            first_in(posting, -10_000_000_000, 10_000_000_000)
+                & second_in(posting, -10_000_000_000, 10_000_000_000)
+                & third_in(posting, -10_000_000_000, 10_000_000_000)
         }
-        2 => first_in(p, 0, 10_000_000_000) & second_in(p, 0, 10_000_000_000),
-        3 => first_in(p, 0, 1) & second_in(p, -1_000_000_000, 1_000_000_000),
-        4 => first_in(p, 1, 10_000_000_000) & second_in(p, 1, 10_000_000_000),
-        5 => first_in(p, 0, 200_000),
-        6 => first_in(p, 0, 1) & second_in(p, -10_000_000_000, 10_000_000_000),
+        2 => first_in(posting, 0, 10_000_000_000) & second_in(posting, 0, 10_000_000_000),
+        3 => first_in(posting, 0, 1) & second_in(posting, -1_000_000_000, 1_000_000_000),
+        4 => first_in(posting, 1, 10_000_000_000) & second_in(posting, 1, 10_000_000_000),
+        5 => first_in(posting, 0, 200_000),
+        6 => first_in(posting, 0, 1) & second_in(posting, -10_000_000_000, 10_000_000_000),
         _ => true,
     }
 }
@@ -48,16 +47,19 @@ pub(crate) fn electric_in_fields(posting: Posting) -> bool
 pub(crate) fn steam_in_fields(posting: Posting) -> bool
     ensures { λ r. ⌜ r ≡ inFields (fieldsOf Book.Steam (posting .kind)) (numbersOf posting) ⌝ }
 {
-    let p = posting;
     let kind = posting.kind;
     match kind {
-        1 => first_in(p, -10_000_000_000, 10_000_000_000),
-        2 => first_in(p, 0, 100_000_000),
-        3 => first_in(p, -10_000_000, 10_000_000),
-        4 => first_in(p, -100_000_000, 100_000_000),
+        1 => first_in(posting, -10_000_000_000, 10_000_000_000),
+        2 => first_in(posting, 0, 100_000_000),
+        3 => first_in(posting, -10_000_000, 10_000_000),
+        4 => first_in(posting, -100_000_000, 100_000_000),
         5 => true,
-        6 => first_in(p, -10_000_000_000, 10_000_000_000) & second_in(p, 0, 100_000_000_000),
-        7 => { (first_in(p, 12, 12) | first_in(p, 24, 24)) & second_in(p, 1, 100_000_000) }
+        6 => first_in(posting, -10_000_000_000, 10_000_000_000)
+            & second_in(posting, 0, 100_000_000_000),
+        7 => {
+            (first_in(posting, 12, 12) | first_in(posting, 24, 24))
+                & second_in(posting, 1, 100_000_000)
+        }
         _ => true,
     }
 }
