@@ -4,13 +4,13 @@ use amounts::Cents;
 use amounts::Points;
 use postings::Book;
 use postings::Posting;
-use postings::Read;
+use records::Read;
 use refusals::Written;
 ghost use mathlib.Core.Path.{_≡_};
 ghost use Rattle.rounding.specs.Round.{round};
 ghost use Rattle.rounding.specs.Weight.{weightOr0};
 ghost use Rattle.amounts.specs.Text.{centsText, pointsText, textWritten, textLeft};
-ghost use Rattle.postings.specs.Records.{readOf, recordWritten, recordLeft};
+ghost use Rattle.records.specs.Records.{readOf, recordWritten, recordLeft};
 ghost use Rattle.host.specs.Books.{bookOf};
 
 // round(a/b); a divisor below 1 gives 0.
@@ -56,7 +56,7 @@ fn book_of(steam: bool) -> Book
 pub extern "C" fn neapscroll_read_record(steam: bool, bytes: &[u8], place: usize) -> Read
     ensures { λ r. ⌜ r ≡ readOf (bookOf steam) (now (bytes .entry)) place ⌝ }
 {
-    postings::read_record(book_of(steam), bytes, place)
+    records::read_record(book_of(steam), bytes, place)
 }
 
 // Writes the record of a posting to the steam book or to the electric one.
@@ -68,5 +68,5 @@ pub extern "C" fn neapscroll_write_record(
 ) -> Written
     ensures { λ r. ⌜ (r ≡ recordWritten (bookOf steam) posting (now (buffer .entry))) × (now (buffer .exit) ≡ recordLeft (bookOf steam) posting (now (buffer .entry))) ⌝ }
 {
-    postings::write_record(book_of(steam), posting, buffer)
+    records::write_record(book_of(steam), posting, buffer)
 }

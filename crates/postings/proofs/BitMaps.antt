@@ -1,18 +1,21 @@
 -- Laws of bit maps: a map and its bits determine each other, its ones are counted, and a bit that a kind lacks makes it too large.
 -- Assumes nothing.
 use mathlib.Core.Path.{_≡_, refl, sym, ap, _∙_}
-use mathlib.Core.Bool.{Bool, true, false, cond}
+use mathlib.Core.Bool.{Bool, true, false, cond, not}
 use mathlib.Core.List.{List, [], _∷_}
 use Prim.Native.Nat.{ℕ, zero, suc, _+_, _*_, _/_, _%_, _^_, _<_, _≤_}
 use native.Mathlib.Omega.{arith}
 use native.Mathlib.Nat.{pow-suc, one-le-pow}
 use lib.Count.{ones, ones-step}
 use lib.Dec.{eqb, leb, leb→le}
+use lib.IntN.{pos}
 use lib.ListN.{length, drop}
 use borrow.Author.Tests.{le-leb, lt-leb, leb-true, leb-false}
 use Rattle.ints.specs.Flags.{T-false}
-use Rattle.postings.specs.Kinds.{anyStands}
-use Rattle.postings.specs.Records.{bitsFrom, bitMapOf}
+use Rattle.ints.specs.Machine.{eqZ}
+use Rattle.postings.specs.Kinds.{numbersOf, standing, anyStands}
+use Rattle.postings.specs.BitMaps.{bitsFrom, bitMapOf, bitOf}
+use Rattle.postings.specs.declared.Posting.{Posting}
 
 -- how many stand
 abbrev pub count : List Bool → ℕ
@@ -91,3 +94,19 @@ beyond (suc c) (bit ∷ bits) = beyond c bits ∙ go bit
     go : (t : Bool) → leb (2 ^ c) (bitMapOf bits) ≡ leb (2 ^ suc c) (cond t 1 0 + 2 * bitMapOf bits)
     go true = leb-same (2 ^ c) (bitMapOf bits) (2 ^ suc c) (1 + 2 * bitMapOf bits) (λ h. omega (arith, pow-suc 2 c)) (λ h. omega (arith, pow-suc 2 c))
     go false = leb-same (2 ^ c) (bitMapOf bits) (2 ^ suc c) (0 + 2 * bitMapOf bits) (λ h. omega (arith, pow-suc 2 c)) (λ h. omega (arith, pow-suc 2 c))
+
+-- ---- the bit map of a posting
+
+pub map-is : (p : Posting) → bitOf (p .first) + 2 * bitOf (p .second) + 4 * bitOf (p .third) ≡ bitMapOf (standing (numbersOf p))
+unfolding bitOf bitMapOf
+map-is p = go (eqZ (p .first) (pos 0)) (eqZ (p .second) (pos 0)) (eqZ (p .third) (pos 0))
+  where
+    go : (a b c : Bool) → cond a 0 1 + 2 * cond b 0 1 + 4 * cond c 0 1 ≡ bitMapOf (not a ∷ not b ∷ not c ∷ [])
+    go true true true = refl
+    go true true false = refl
+    go true false true = refl
+    go true false false = refl
+    go false true true = refl
+    go false true false = refl
+    go false false true = refl
+    go false false false = refl

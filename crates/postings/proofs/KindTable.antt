@@ -12,8 +12,7 @@ use borrow.Author.Tests.{eqb-true, eqb-false, le-leb, lt-leb, leb-true, leb-fals
 use Rattle.ints.specs.Flags.{all-below}
 use Rattle.postings.proofs.BitMaps.{beyond}
 use Rattle.postings.specs.Kinds.{Field, orNone, Kind, unknown, kinds, kindOf, tableOf, isNone, fieldsOf, unknownKind, standsBeyond}
-use Rattle.postings.specs.Records.{bitMapOf}
-use Rattle.postings.specs.Steps.{mapsOf, packedOf}
+use Rattle.postings.specs.BitMaps.{bitMapOf, mapsOf, packedOf}
 use Rattle.postings.specs.declared.Book.{Book}
 use Rattle.postings.specs.declared.Book.the-variants.{Electric, Steam}
 

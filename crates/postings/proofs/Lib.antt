@@ -1,10 +1,4 @@
--- Laws of the records' definitions, over plain numbers and lists, that the proofs of the code and of the round trips cite.
-pub mod KindTable
-pub mod FieldBytes
-pub mod FieldRanges
+-- Laws of the table, over plain numbers and lists, that the proofs of the code and of the crates above cite.
 pub mod BitMaps
-pub mod Reading
-pub mod Writing
-pub mod FieldTrips
-pub mod RoundTrips
-pub mod Examples
+pub mod KindTable
+pub mod FieldRanges

@@ -1,8 +1,4 @@
--- Postings: the table of kinds and fields, the record format, and what reading and writing a record give.
+-- Postings: the table of kinds and fields with its bit maps, and a book's answers.
 pub mod Kinds
-pub mod Fields
-pub mod Records
+pub mod BitMaps
 pub mod Answers
-pub mod RoundTrips
-pub mod Examples
-pub mod Steps

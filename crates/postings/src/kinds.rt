@@ -1,7 +1,10 @@
-// The table of kinds and fields.
+// The table of kinds and fields, and the bit map of a posting.
 use crate::Book;
+use crate::Posting;
 ghost use mathlib.Core.Path.{_≡_};
-ghost use Rattle.postings.specs.Steps.{mapsOf, packedOf};
+ghost use Prim.Native.Nat.{_<_};
+ghost use Rattle.postings.specs.Kinds.{numbersOf, standing};
+ghost use Rattle.postings.specs.BitMaps.{bitMapOf, bitOf, mapsOf, packedOf};
 
 // How many bit maps the records of a kind may have, which is 2 to the number of its fields; 0 where the book has no such kind. A byte
 // a kind, that of kind 0 rightmost, since an array would be built anew at every call.
@@ -18,11 +21,25 @@ fn packed_of(book: Book) -> u64
     }
 }
 
-pub(crate) fn maps_of(book: Book, kind: u8) -> u8
+pub fn maps_of(book: Book, kind: u8) -> u8
     ensures { λ r. ⌜ r ≡ mapsOf book kind ⌝ }
 {
     if 8 <= kind {
         return 0;
     }
     ((packed_of(book) >> (8 * kind)) % 256) as u8
+}
+
+// 1 for a number that has a field, 0 for 0, which has none.
+fn bit_of(number: i64) -> u8
+    ensures { λ r. ⌜ (r ≡ bitOf number) × (r < 2) ⌝ }
+{
+    if number == 0 { 0 } else { 1 }
+}
+
+// The bit map of the numbers that are not 0.
+pub fn bitmap_of(posting: Posting) -> u8
+    ensures { λ r. ⌜ r ≡ bitMapOf (standing (numbersOf posting)) ⌝ }
+{
+    bit_of(posting.first) + 2 * bit_of(posting.second) + 4 * bit_of(posting.third)
 }

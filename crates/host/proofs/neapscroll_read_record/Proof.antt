@@ -2,7 +2,7 @@
 use mathlib.Core.Path.{ap, _∙_}
 use denote.Ref.{now}
 use borrow.Author.Needs.{needs}
-use Rattle.postings.specs.Records.{readOf}
+use Rattle.records.specs.Records.{readOf}
 use Rattle.postings.specs.declared.Book.{Book}
 use Rattle.host.proofs.neapscroll_read_record.Statement.{statement}
 use Rattle.host.proofs.neapscroll_read_record.Tie as tie

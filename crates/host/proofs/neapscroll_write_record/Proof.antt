@@ -2,7 +2,7 @@
 use mathlib.Core.Path.{ap, _∙_}
 use denote.Ref.{now}
 use borrow.Author.Needs.{needs}
-use Rattle.postings.specs.Records.{recordWritten, recordLeft}
+use Rattle.records.specs.Records.{recordWritten, recordLeft}
 use Rattle.postings.specs.declared.Book.{Book}
 use Rattle.host.proofs.neapscroll_write_record.Statement.{statement}
 use Rattle.host.proofs.neapscroll_write_record.Tie as tie
