@@ -10,6 +10,7 @@ ghost use Rattle.postings.specs.BitMaps.{bitMapOf, bitOf, mapsOf, packed
 // a kind, that of kind 0 rightmost, since an array would be built anew at every call.
 const ELECTRIC_MAPS: u64 = 0x00_04_02_04_04_04_08_00;
 
+// The same for the steam book.
 const STEAM_MAPS: u64 = 0x04_04_01_02_02_02_02_00;
 
 fn packed_of(book: Book) -> u64
