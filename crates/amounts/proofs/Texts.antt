@@ -89,9 +89,9 @@ module _ (places : ℕ) (z : ℤ) (size whole start count : ℕ) (m : Measured p
       omega (arith, m .start-is, text-length places z)
 
   -- its parts, stored one behind the other, are its text
-  pub text-stored : (buffer signed whole-stored stored : List ℕ) → signed ≡ sets buffer 0 (signOf z) → whole-stored ≡ sets signed start (characters (digits 10 count whole)) → stored ≡ sets (set whole-stored (start + count) 46) (start + count + 1) (characters (digits 10 places size)) → stored ≡ sets buffer 0 (textOf places z)
+  pub text-stored : (buffer sign-stored whole-stored stored : List ℕ) → sign-stored ≡ sets buffer 0 (signOf z) → whole-stored ≡ sets sign-stored start (characters (digits 10 count whole)) → stored ≡ sets (set whole-stored (start + count) 46) (start + count + 1) (characters (digits 10 places size)) → stored ≡ sets buffer 0 (textOf places z)
   unfolding textOf decimal
-  text-stored buffer signed whole-stored stored e f g =
+  text-stored buffer sign-stored whole-stored stored e f g =
       let number = characters (digits 10 (widthOf (natAbs z / 10 ^ places)) (natAbs z / 10 ^ places)) in
       let rest : List ℕ = 46 ∷ characters (digits 10 places (natAbs z)) in
       let n : characters (digits 10 count whole) ≡ number = (λ i. characters (digits 10 ((m .count-is ∙ ap widthOf (m .whole-is)) i) (m .whole-is i))) in
