@@ -79,15 +79,15 @@ leb-same a b c d f g = go (leb a b) refl
     go true e = e ∙ sym (le-leb c d (f (leb-true a b e)))
     go false e = e ∙ sym (T-false (leb c d) (λ t. let h = g (leb→le c d t) in let k = leb-false a b e in omega arith))
 
-none-beyond : (bits : List Bool) → anyStands bits ≡ leb 1 (bitMapOf bits)
+any-stands : (bits : List Bool) → anyStands bits ≡ leb 1 (bitMapOf bits)
 unfolding bitMapOf
-none-beyond [] = refl
-none-beyond (true ∷ bits) = sym (le-leb 1 (1 + 2 * bitMapOf bits) (omega arith))
-none-beyond (false ∷ bits) = none-beyond bits ∙ leb-same 1 (bitMapOf bits) 1 (0 + 2 * bitMapOf bits) (λ h. omega arith) (λ h. omega arith)
+any-stands [] = refl
+any-stands (true ∷ bits) = sym (le-leb 1 (1 + 2 * bitMapOf bits) (omega arith))
+any-stands (false ∷ bits) = any-stands bits ∙ leb-same 1 (bitMapOf bits) 1 (0 + 2 * bitMapOf bits) (λ h. omega arith) (λ h. omega arith)
 
 pub beyond : (c : ℕ) (bits : List Bool) → anyStands (drop c bits) ≡ leb (2 ^ c) (bitMapOf bits)
 unfolding bitMapOf
-beyond zero bits = none-beyond bits
+beyond zero bits = any-stands bits
 beyond (suc c) [] = sym (lt-leb (2 ^ suc c) 0 (one-le-pow (suc c) 2 (omega arith)))
 beyond (suc c) (bit ∷ bits) = beyond c bits ∙ go bit
   where

@@ -6,14 +6,14 @@ use Prim.Native.Nat.{ℕ, _<_, _≤_}
 use native.Mathlib.Omega.{arith}
 use lib.Dec.{T, eqb, leb, eqb→eq, leb→le}
 use lib.IntN.{ℤ, pos, negsuc}
-use lib.ListN.{length, List·getD-eq-default}
+use lib.ListN.{length}
 use borrow.Author.Tests.{leb-true, leb-false, le-leb, lt-leb, eqb-true, eqb-false}
 use Rattle.ints.specs.Flags.{T-false, T-left, T-right, allBelow, all-below}
 use Rattle.ints.specs.Machine.{eqZ}
 use Rattle.ints.specs.Range.{inRange}
-use Rattle.postings.specs.Kinds.{Field, Kind, kinds, unknown, kindOf, tableOf, orNone, fieldsOf, inFields}
+use Rattle.postings.proofs.KindTable.{unknown-past, no-fields}
+use Rattle.postings.specs.Kinds.{Field, fieldsOf, inFields}
 use Rattle.postings.specs.declared.Book.{Book}
-use Rattle.postings.specs.declared.Book.the-variants.{Electric, Steam}
 
 -- ---- tests joined, as the code joins them and as the table does
 
@@ -52,14 +52,9 @@ only n (pos m) = go (eqb m n) refl (leb n m) refl
 
 -- ---- kinds without a field
 
-no-fields : (fields : List Field) (numbers : List ℤ) → length fields ≡ 0 → true ≡ inFields fields numbers
-no-fields [] numbers e = refl
-no-fields (f ∷ fields) numbers e = absurd (omega arith)
-
-fields-past : (book : Book) (kind : ℕ) → 8 ≤ kind → fieldsOf book kind ≡ []
-unfolding fieldsOf kindOf
-fields-past Electric kind h = ap (λ (k : Kind). orNone (tableOf Electric k)) (List·getD-eq-default kinds unknown h)
-fields-past Steam kind h = ap (λ (k : Kind). orNone (tableOf Steam k)) (List·getD-eq-default kinds unknown h)
+none-asked : (fields : List Field) (numbers : List ℤ) → length fields ≡ 0 → true ≡ inFields fields numbers
+none-asked [] numbers e = refl
+none-asked (f ∷ fields) numbers e = absurd (omega arith)
 
 -- a kind that is not from 1 to high has no field, if every other kind of the table has none: the test computes
 pub none-left : (book : Book) (high kind : ℕ) (numbers : List ℤ) → T (allBelow 8 (λ (k : ℕ). leb 1 k && leb k high || eqb (length (fieldsOf book k)) 0)) → (1 ≤ kind → kind ≤ high → ⊥) → true ≡ inFields (fieldsOf book kind) numbers
@@ -69,7 +64,7 @@ none-left book high kind numbers t f = go (leb 8 kind) refl
     other = T-false (leb 1 kind && leb kind high) (λ s. f (leb→le 1 kind (T-left (leb 1 kind) (leb kind high) s)) (leb→le kind high (T-right (leb 1 kind) (leb kind high) s)))
 
     go : (b : Bool) → leb 8 kind ≡ b → true ≡ inFields (fieldsOf book kind) numbers
-    go true g = ap (λ (l : List Field). inFields l numbers) (sym (fields-past book kind (leb-true 8 kind g)))
+    go true g = ap (λ (l : List Field). inFields l numbers) (sym (no-fields book kind (unknown-past book kind (leb-true 8 kind g))))
     go false g =
         let p = all-below 8 (λ (k : ℕ). leb 1 k && leb k high || eqb (length (fieldsOf book k)) 0) t kind (leb-false 8 kind g) in
-        no-fields (fieldsOf book kind) numbers (eqb→eq _ 0 (subst (λ (b : Bool). T (b || eqb (length (fieldsOf book kind)) 0)) other p))
+        none-asked (fieldsOf book kind) numbers (eqb→eq _ 0 (subst (λ (b : Bool). T (b || eqb (length (fieldsOf book kind)) 0)) other p))

@@ -17,7 +17,7 @@ use Rattle.postings.specs.declared.Book.{Book}
 use Rattle.postings.specs.declared.Book.the-variants.{Electric, Steam}
 
 -- past the table no kind is known
-unknown-past : (book : Book) (kind : ℕ) → 8 ≤ kind → unknownKind book kind ≡ true
+pub unknown-past : (book : Book) (kind : ℕ) → 8 ≤ kind → unknownKind book kind ≡ true
 unfolding unknownKind kindOf
 unknown-past Electric kind h = ap (λ (k : Kind). isNone (tableOf Electric k)) (List·getD-eq-default kinds unknown h)
 unknown-past Steam kind h = ap (λ (k : Kind). isNone (tableOf Steam k)) (List·getD-eq-default kinds unknown h)
