@@ -13,6 +13,11 @@ infix 30 _is_
 abbrev pub _is_ : ℤ → ℤ → Figure
 x is y = record { computed = x ∷ []; stated = y ∷ [] }
 
+-- several of one line
+infix 30 _are_
+abbrev pub _are_ : List ℤ → List ℤ → Figure
+x are y = record { computed = x; stated = y }
+
 -- a text: its characters by their ASCII codes
 infix 30 _reads_
 abbrev pub _reads_ : List ℕ → List ℕ → Figure

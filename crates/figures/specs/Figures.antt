@@ -2,10 +2,11 @@
 use mathlib.Core.List.{List, _++_}
 use Rattle.figures.specs.Figure.{Figure, AllHold}
 use Rattle.figures.specs.Rounding.{rounding}
+use Rattle.figures.specs.Electric.{electric}
 use Rattle.figures.specs.Text.{text}
 
 abbrev pub figures : List Figure
-figures = rounding ++ text
+figures = rounding ++ (electric ++ text)
 
 -- proved in proofs/Figures.antt
 abbrev pub FiguresHold : Type 0

@@ -1,0 +1,16 @@
+-- `ElectricBook::fresh` is the fresh book: both levels are the fresh one. Assumes nothing.
+use borrow.Author.Needs.{needs}
+use Rattle.electric_rules.proofs.ElectricBook.fresh.Statement.{statement}
+use Rattle.electric_rules.proofs.ElectricBook.fresh.Tie as tie
+use Rattle.electric_rules.proofs.ElectricBook.fresh.Reads as reads
+use Rattle.electric_rules.proofs.ElectricBook.fresh.Lts as lts
+use Rattle.electric_rules.proofs.Level.fresh.Reads as fresh-reads
+
+fresh-requires : tie.Need-fresh-requires
+fresh-requires c κs = search needs
+
+returns : tie.Need-returns
+returns c = simp (c .fresh .ensures)
+
+pub fresh-spec : {M : Type 1} → statement M
+fresh-spec = tie.close (tie.spec fresh-requires returns)

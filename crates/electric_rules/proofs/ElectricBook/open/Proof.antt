@@ -1,0 +1,32 @@
+-- `ElectricBook::open` gives what the rules open: the one row of its table holds where the test is taken. Assumes nothing.
+use mathlib.Core.Path.{sym, _∙_}
+use mathlib.Core.List.{[], _∷_}
+use native.Mathlib.Omega.{arith}
+use borrow.Author.Tests.{lt-ltb, le-ltb}
+use Rattle.refusals.specs.Rows.{row}
+use Rattle.refusals.specs.Laws.{at-row, accepted, gives-refusal, gives-asked}
+use Rattle.postings.specs.declared.Answer.the-variants.{Done}
+use Rattle.electric_rules.specs.Book.{posted, refused, openedOf}
+use borrow.Author.Needs.{needs}
+use Rattle.electric_rules.proofs.ElectricBook.open.Statement.{statement}
+use Rattle.electric_rules.proofs.ElectricBook.open.Tie as tie
+use Rattle.electric_rules.proofs.ElectricBook.open.Reads as reads
+use Rattle.electric_rules.proofs.ElectricBook.open.Lts as lts
+use Rattle.electric_rules.proofs.ElectricBook.fresh.Reads as fresh-reads
+
+fresh-requires : tie.Need-fresh-requires
+fresh-requires c κs = search needs
+
+returns : tie.Need-returns
+unfolding openedOf
+returns c = (λ i. refused (c .fresh .ensures i) 7) ∙ sym (gives-refusal (row 7 _ ∷ []) _ _ 7 (omega arith) (at-row 7 [] (lt-ltb _ _ (c .before .if1 .taken))))
+
+fresh-requires-2 : tie.Need-fresh-requires-2
+fresh-requires-2 c κs = search needs
+
+returns-2 : tie.Need-returns-2
+unfolding openedOf
+returns-2 c = (λ i. posted Done (c .fresh2 .ensures i)) ∙ sym (gives-asked (row 7 _ ∷ []) _ _ (accepted (row 7 _ ∷ []) (le-ltb _ _ (c .before .if1 .left), tt)))
+
+pub open-spec : {M : Type 1} → statement M
+open-spec = tie.close (tie.spec fresh-requires returns fresh-requires-2 returns-2)

@@ -1,0 +1,17 @@
+-- The rates of a division (01, Electric book, Opening; sheets 125 and 126). No other definition names one.
+use mathlib.Core.Bool.{cond}
+use Prim.Native.Nat.{ℕ}
+use lib.Dec.{eqb}
+use lib.IntN.{pos}
+use Rattle.electric_rules.specs.declared.Rates.{Rates}
+
+-- 0
+abbrev pub lightAndPower : Rates
+lightAndPower = record { percentage = pos 95; base = pos 1799; secondary = pos 108443; primary = pos 106231 }
+
+-- 1
+abbrev pub missouriPublicService : Rates
+missouriPublicService = record { percentage = pos 95; base = pos 2538; secondary = pos 107433; primary = pos 104187 }
+
+unfoldable pub ratesOf : ℕ → Rates
+ratesOf division = cond (eqb division 0) lightAndPower missouriPublicService
