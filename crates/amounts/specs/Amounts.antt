@@ -1,7 +1,8 @@
 -- Amounts (01, Amounts and rounding), and what a book may store of them (01, Posting records): cents in ±10^12, factors in ±99,999.
-use mathlib.Core.Bool.{Bool}
+use mathlib.Core.Path.{_≡_}
+use mathlib.Core.Bool.{Bool, true}
 use lib.IntN.{ℤ, pos, negℤ}
-use Rattle.ints.specs.Range.{inRange}
+use Rattle.ints.specs.Range.{inRange, Within, inRange-true}
 use Rattle.amounts.specs.declared.Cents.{Cents}
 use Rattle.amounts.specs.declared.Points.{Points}
 
@@ -16,3 +17,13 @@ centsInLimits amount = inRange (negℤ (pos 1000000000000)) (pos 1000000000000) 
 
 unfoldable pub pointsInLimits : Points → Bool
 pointsInLimits amount = inRange (negℤ (pos 99999)) (pos 99999) (amount .0)
+
+-- ---- what the limits tell
+
+pub cents-within : (amount : Cents) → centsInLimits amount ≡ true → Within 1000000000000 (amount .0)
+unfolding centsInLimits
+cents-within amount e = inRange-true (negℤ (pos 1000000000000)) (pos 1000000000000) (amount .0) e
+
+pub points-within : (amount : Points) → pointsInLimits amount ≡ true → Within 99999 (amount .0)
+unfolding pointsInLimits
+points-within amount e = inRange-true (negℤ (pos 99999)) (pos 99999) (amount .0) e

@@ -1,7 +1,7 @@
 -- The year of the electric book (01, Electric book, Settle and Month end). No other definition names a month.
 use mathlib.Core.Bool.{Bool, cond, _||_}
 use Prim.Native.Nat.{ℕ, _+_}
-use lib.Dec.{eqb}
+use lib.Dec.{eqb, ltb}
 
 -- November and May settle
 unfoldable pub settles : ℕ → Bool
@@ -13,4 +13,4 @@ entering month = cond (eqb month 2) 1 (cond (eqb month 8) 2 0)
 
 -- the month moves on, December to January
 unfoldable pub monthAfter : ℕ → ℕ
-monthAfter month = cond (eqb month 12) 1 (month + 1)
+monthAfter month = cond (ltb month 12) (month + 1) 1

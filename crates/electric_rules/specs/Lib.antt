@@ -7,6 +7,7 @@ pub mod Settlement
 pub mod Levels
 pub mod Next
 pub mod Limits
+pub mod Ranges
 pub mod Refusals
 pub mod Tally
 pub mod Claim

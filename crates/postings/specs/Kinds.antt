@@ -3,7 +3,7 @@
 use mathlib.Core.Bool.{Bool, true, false, not, _&&_, _||_}
 use mathlib.Core.Option.{Option, none, some}
 use mathlib.Core.List.{List, [], _∷_, map}
-use Prim.Native.Nat.{ℕ, _^_}
+use Prim.Native.Nat.{ℕ, zero, suc, _^_}
 use lib.IntN.{ℤ, pos, negℤ}
 use lib.ListN.{length, getD, drop}
 use Rattle.ints.specs.Machine.{eqZ}
@@ -113,3 +113,20 @@ inFields (f ∷ fields) (z ∷ numbers) = allows f z && inFields fields numbers
 -- 7: field out of range
 unfoldable pub outOfRange : Book → Posting → Bool
 outOfRange book p = not (inFields (fieldsOf book (p .kind)) (numbersOf p))
+
+-- ---- by kind
+
+-- what holds of each kind of the table with its number, and of any number as an unknown kind, holds of every number with its kind
+pub by-kind :
+    (P : ℕ → Kind → Type 0) → P 1 cost → P 2 sales → P 3 bill → P 4 settle → P 5 monthEnd → P 6 adjust → P 7 reconcile → ((n : ℕ) → P n unknown) →
+    (n : ℕ) → P n (kindOf n)
+unfolding kindOf
+by-kind P p1 p2 p3 p4 p5 p6 p7 other zero = other 0
+by-kind P p1 p2 p3 p4 p5 p6 p7 other (suc zero) = p1
+by-kind P p1 p2 p3 p4 p5 p6 p7 other (suc (suc zero)) = p2
+by-kind P p1 p2 p3 p4 p5 p6 p7 other (suc (suc (suc zero))) = p3
+by-kind P p1 p2 p3 p4 p5 p6 p7 other (suc (suc (suc (suc zero)))) = p4
+by-kind P p1 p2 p3 p4 p5 p6 p7 other (suc (suc (suc (suc (suc zero))))) = p5
+by-kind P p1 p2 p3 p4 p5 p6 p7 other (suc (suc (suc (suc (suc (suc zero)))))) = p6
+by-kind P p1 p2 p3 p4 p5 p6 p7 other (suc (suc (suc (suc (suc (suc (suc zero))))))) = p7
+by-kind P p1 p2 p3 p4 p5 p6 p7 other (suc (suc (suc (suc (suc (suc (suc (suc n)))))))) = other (suc (suc (suc (suc (suc (suc (suc (suc n))))))))
