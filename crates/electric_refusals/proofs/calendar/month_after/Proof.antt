@@ -1,0 +1,23 @@
+-- `calendar::month_after` moves the month on as the rules do. Assumes nothing.
+use mathlib.Core.Path.{sym}
+use borrow.Author.Tests.{lt-ltb, le-ltb}
+use Rattle.electric_rules.specs.Calendar.{monthAfter}
+use borrow.Author.Needs.{needs}
+use Rattle.electric_refusals.proofs.calendar.month_after.Statement.{statement}
+use Rattle.electric_refusals.proofs.calendar.month_after.Tie as tie
+use Rattle.electric_refusals.proofs.calendar.month_after.Reads as reads
+use Rattle.electric_refusals.proofs.calendar.month_after.Lts as lts
+
+add-result : tie.Need-add-result
+add-result c = search needs
+
+returns : tie.Need-returns
+unfolding monthAfter
+returns c = sym (simp (lt-ltb _ _ (c .if1 .taken)))
+
+returns-2 : tie.Need-returns-2
+unfolding monthAfter
+returns-2 c = sym (simp (le-ltb _ _ (c .if1 .left)))
+
+pub month-after-spec : {M : Type 1} → statement M
+month-after-spec = tie.close (tie.spec add-result returns returns-2)

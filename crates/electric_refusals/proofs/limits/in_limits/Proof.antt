@@ -1,0 +1,39 @@
+-- `limits::in_limits` tests the limits of the book: of its dates, its period and its levels. Assumes nothing.
+use mathlib.Core.Bool.{_&&_}
+use Rattle.electric_rules.specs.Limits.{inLimits}
+use borrow.Author.Needs.{needs}
+use Rattle.electric_refusals.proofs.limits.in_limits.Statement.{statement}
+use Rattle.electric_refusals.proofs.limits.in_limits.Tie as tie
+use Rattle.electric_refusals.proofs.limits.in_limits.Reads as reads
+use Rattle.electric_refusals.proofs.limits.in_limits.Lts as lts
+use Rattle.electric_refusals.proofs.limits.dates_in_limits.Reads as dates-in-limits-reads
+use Rattle.electric_refusals.proofs.limits.level_in_limits.Reads as level-in-limits-reads
+use Rattle.electric_refusals.proofs.limits.period_in_limits.Reads as period-in-limits-reads
+
+dates-in-limits-requires : tie.Need-dates-in-limits-requires
+dates-in-limits-requires c κs = search needs
+
+period-in-limits-requires : tie.Need-period-in-limits-requires
+period-in-limits-requires c κs = search needs
+
+level-in-limits-requires : tie.Need-level-in-limits-requires
+level-in-limits-requires c κs = search needs
+
+level-in-limits-requires-2 : tie.Need-level-in-limits-requires-2
+level-in-limits-requires-2 c κs = search needs
+
+returns : tie.Need-returns
+unfolding inLimits
+returns c = λ i.
+    c .before .before .before .dates-in-limits .ensures i && (c .before .before .period-in-limits .ensures i
+    && (c .before .level-in-limits .ensures i && c .level-in-limits2 .ensures i))
+
+pub in-limits-spec : {M : Type 1} → statement M
+in-limits-spec =
+    tie.close
+    (tie.spec
+    dates-in-limits-requires
+    period-in-limits-requires
+    level-in-limits-requires
+    level-in-limits-requires-2
+    returns)

@@ -1,0 +1,42 @@
+-- `limits::level_in_limits` tests the limits of a level: of each of its parts. Assumes nothing.
+use mathlib.Core.Bool.{_&&_}
+use Rattle.electric_rules.specs.Limits.{levelInLimits}
+use borrow.Author.Needs.{needs}
+use Rattle.electric_refusals.proofs.limits.level_in_limits.Statement.{statement}
+use Rattle.electric_refusals.proofs.limits.level_in_limits.Tie as tie
+use Rattle.electric_refusals.proofs.limits.level_in_limits.Reads as reads
+use Rattle.electric_refusals.proofs.limits.level_in_limits.Lts as lts
+use Rattle.amounts.proofs.Cents.in_limits.Reads as in-limits-reads
+use Rattle.electric_refusals.proofs.limits.run_in_limits.Reads as run-in-limits-reads
+
+in-limits-requires : tie.Need-in-limits-requires
+in-limits-requires c κs = search needs
+
+in-limits-requires-2 : tie.Need-in-limits-requires-2
+in-limits-requires-2 c κs = search needs
+
+run-in-limits-requires : tie.Need-run-in-limits-requires
+run-in-limits-requires c κs = search needs
+
+run-in-limits-requires-2 : tie.Need-run-in-limits-requires-2
+run-in-limits-requires-2 c κs = search needs
+
+run-in-limits-requires-3 : tie.Need-run-in-limits-requires-3
+run-in-limits-requires-3 c κs = search needs
+
+returns : tie.Need-returns
+unfolding levelInLimits
+returns c = λ i.
+    c .before .before .before .before .in-limits .ensures i && (c .before .before .before .in-limits2 .ensures i
+    && (c .before .before .run-in-limits .ensures i && (c .before .run-in-limits2 .ensures i && c .run-in-limits3 .ensures i)))
+
+pub level-in-limits-spec : {M : Type 1} → statement M
+level-in-limits-spec =
+    tie.close
+    (tie.spec
+    in-limits-requires
+    in-limits-requires-2
+    run-in-limits-requires
+    run-in-limits-requires-2
+    run-in-limits-requires-3
+    returns)

@@ -1,0 +1,39 @@
+-- `limits::period_in_limits` tests the limits of a period: of each of its amounts. Assumes nothing.
+use mathlib.Core.Bool.{_&&_}
+use Rattle.electric_rules.specs.Limits.{periodInLimits}
+use borrow.Author.Needs.{needs}
+use Rattle.electric_refusals.proofs.limits.period_in_limits.Statement.{statement}
+use Rattle.electric_refusals.proofs.limits.period_in_limits.Tie as tie
+use Rattle.electric_refusals.proofs.limits.period_in_limits.Reads as reads
+use Rattle.electric_refusals.proofs.limits.period_in_limits.Lts as lts
+use Rattle.amounts.proofs.Cents.in_limits.Reads as in-limits-reads
+use Rattle.electric_refusals.proofs.limits.kwh_in_limits.Reads as kwh-in-limits-reads
+use Rattle.electric_refusals.proofs.limits.remainder_in_limits.Reads as remainder-in-limits-reads
+
+in-limits-requires : tie.Need-in-limits-requires
+in-limits-requires c κs = search needs
+
+kwh-in-limits-requires : tie.Need-kwh-in-limits-requires
+kwh-in-limits-requires c κs = search needs
+
+kwh-in-limits-requires-2 : tie.Need-kwh-in-limits-requires-2
+kwh-in-limits-requires-2 c κs = search needs
+
+remainder-in-limits-requires : tie.Need-remainder-in-limits-requires
+remainder-in-limits-requires c κs = search needs
+
+returns : tie.Need-returns
+unfolding periodInLimits
+returns c = λ i.
+    c .before .before .before .in-limits .ensures i && (c .before .before .kwh-in-limits .ensures i
+    && (c .before .kwh-in-limits2 .ensures i && c .remainder-in-limits .ensures i))
+
+pub period-in-limits-spec : {M : Type 1} → statement M
+period-in-limits-spec =
+    tie.close
+    (tie.spec
+    in-limits-requires
+    kwh-in-limits-requires
+    kwh-in-limits-requires-2
+    remainder-in-limits-requires
+    returns)

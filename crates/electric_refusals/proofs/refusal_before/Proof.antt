@@ -1,0 +1,101 @@
+-- `refusal_before` is the number of the first row that holds, row by row: each test is its row's condition. Assumes nothing.
+use mathlib.Core.Path.{_≡_, sym, _∙_}
+use mathlib.Core.Bool.{true, false}
+use borrow.Author.Tests.{not-false}
+use Rattle.refusals.specs.Rows.{refusalBy}
+use Rattle.postings.specs.Kinds.{kindOf, unknownKind, strayNumber, outOfRange}
+use Rattle.postings.specs.declared.Book.the-variants.{Electric}
+use Rattle.electric_rules.specs.Limits.{inLimits}
+use Rattle.electric_rules.specs.Refusals.{forbidden}
+use borrow.Author.Needs.{needs}
+use Rattle.electric_refusals.proofs.refusal_before.Statement.{statement}
+use Rattle.electric_refusals.proofs.refusal_before.Tie as tie
+use Rattle.electric_refusals.proofs.refusal_before.Reads as reads
+use Rattle.electric_refusals.proofs.refusal_before.Lts as lts
+use Rattle.electric_refusals.proofs.is_forbidden.Reads as is-forbidden-reads
+use Rattle.electric_refusals.proofs.limits.in_limits.Reads as in-limits-reads
+use Rattle.electric_refusals.proofs.sold_nothing.Reads as sold-nothing-reads
+use Rattle.postings.proofs.out_of_range.Reads as out-of-range-reads
+use Rattle.postings.proofs.stray_number.Reads as stray-number-reads
+use Rattle.postings.proofs.unknown_kind.Reads as unknown-kind-reads
+
+-- what each test has left, over the place in the code where it is known
+
+known : (c : tie.Else1) → unknownKind Electric (c .before .before .args .posting .kind) ≡ false
+known c = sym (c .before .unknown-kind .ensures) ∙ c .if1 .left
+
+plain : (c : tie.Else2) → strayNumber Electric (c .before .before .before .before .args .posting) ≡ false
+plain c = sym (c .before .stray-number .ensures) ∙ c .if2 .left
+
+limited : (c : tie.Else3) → inLimits (c .before .before .before .before .before .before .args .book) ≡ true
+limited c = sym (c .before .in-limits .ensures) ∙ not-false _ (c .if3 .left)
+
+ranged : (c : tie.Else4) → outOfRange Electric (c .before .before .before .before .before .before .before .before .args .posting) ≡ false
+ranged c = sym (c .before .out-of-range .ensures) ∙ c .if4 .left
+
+allowed : (c : tie.Else5) → forbidden (kindOf (c .before .before .before .before .before .before .before .before .before .before .args .posting .kind)) (c .before .before .before .before .before .before .before .before .before .before .args .book) ≡ false
+allowed c = sym (c .before .is-forbidden .ensures) ∙ c .if5 .left
+
+unknown-kind-requires : tie.Need-unknown-kind-requires
+unknown-kind-requires c κs = search needs
+
+returns : tie.Need-returns
+unfolding refusalBy
+returns c = sym (simp (← (c .before .unknown-kind .ensures), c .if1 .taken))
+
+stray-number-requires : tie.Need-stray-number-requires
+stray-number-requires c κs = search needs
+
+returns-2 : tie.Need-returns-2
+unfolding refusalBy
+returns-2 c = sym (simp (known (c .before .before), ← (c .before .stray-number .ensures), c .if2 .taken))
+
+in-limits-requires : tie.Need-in-limits-requires
+in-limits-requires c κs = search needs
+
+returns-3 : tie.Need-returns-3
+unfolding refusalBy
+returns-3 c = sym (simp (known (c .before .before .before .before), plain (c .before .before), ← (c .before .in-limits .ensures), c .if3 .taken))
+
+out-of-range-requires : tie.Need-out-of-range-requires
+out-of-range-requires c κs = search needs
+
+returns-4 : tie.Need-returns-4
+unfolding refusalBy
+returns-4 c = sym (simp (known (c .before .before .before .before .before .before), plain (c .before .before .before .before), limited (c .before .before), ← (c .before .out-of-range .ensures), c .if4 .taken))
+
+is-forbidden-requires : tie.Need-is-forbidden-requires
+is-forbidden-requires c κs = search needs
+
+returns-5 : tie.Need-returns-5
+unfolding refusalBy
+returns-5 c = sym (simp (known (c .before .before .before .before .before .before .before .before), plain (c .before .before .before .before .before .before), limited (c .before .before .before .before), ranged (c .before .before), ← (c .before .is-forbidden .ensures), c .if5 .taken))
+
+sold-nothing-requires : tie.Need-sold-nothing-requires
+sold-nothing-requires c κs = limited (c .before .before .before .before)
+
+returns-6 : tie.Need-returns-6
+unfolding refusalBy
+returns-6 c = sym (simp (known (c .before .before .before .before .before .before .before .before .before .before), plain (c .before .before .before .before .before .before .before .before), limited (c .before .before .before .before .before .before), ranged (c .before .before .before .before), allowed (c .before .before), ← (c .before .sold-nothing .ensures), c .if6 .taken))
+
+returns-7 : tie.Need-returns-7
+unfolding refusalBy
+returns-7 c = sym (simp (known (c .before .before .before .before .before .before .before .before .before .before), plain (c .before .before .before .before .before .before .before .before), limited (c .before .before .before .before .before .before), ranged (c .before .before .before .before), allowed (c .before .before), ← (c .before .sold-nothing .ensures), c .if6 .left))
+
+pub refusal-before-spec : {M : Type 1} → statement M
+refusal-before-spec =
+    tie.close
+    (tie.spec
+    unknown-kind-requires
+    returns
+    stray-number-requires
+    returns-2
+    in-limits-requires
+    returns-3
+    out-of-range-requires
+    returns-4
+    is-forbidden-requires
+    returns-5
+    sold-nothing-requires
+    returns-6
+    returns-7)
