@@ -53,10 +53,12 @@ owedBy share l = share +ℤ l .carried .0 +ℤ l .interest .0
 unfoldable pub factorFor : ℤ → ℤ → ℤ
 factorFor owed estimate = round (pos 100 *ℤ owed) estimate
 
--- Q and q pending, C and I become 0
+-- what was filed is pending; C and I become 0
+abbrev pub filedLevel : Run → Level → Level
+filedLevel filed l = levelOf (pos 0) (pos 0) filed (l .first) (l .second)
+
 unfoldable pub settledLevel : ℤ → ℤ → Level → Level
-settledLevel share estimate l =
-    levelOf (pos 0) (pos 0) (run (factorFor (owedBy share l) estimate) (owedBy share l)) (l .first) (l .second)
+settledLevel share estimate l = filedLevel (run (factorFor (owedBy share l) estimate) (owedBy share l)) l
 
 -- ---- month end, at a yearly rate in millionths
 

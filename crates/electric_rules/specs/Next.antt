@@ -9,16 +9,17 @@ use Rattle.postings.specs.Kinds.{Kind, cost, sales, bill, settle, monthEnd, adj
 use Rattle.postings.specs.declared.Posting.{Posting}
 use Rattle.postings.specs.declared.Answer.{Answer}
 use Rattle.postings.specs.declared.Answer.the-variants.{Line, FiledLevels, Interest, Done}
+use Rattle.electric_rules.specs.declared.Remainder.{Remainder}
 use Rattle.electric_rules.specs.declared.Level.{Level}
 use Rattle.electric_rules.specs.declared.Period.{Period}
 use Rattle.electric_rules.specs.declared.ElectricBook.{ElectricBook}
-use Rattle.electric_rules.specs.Book.{salesOf, periodOf}
+use Rattle.electric_rules.specs.Book.{remainder, salesOf}
 use Rattle.electric_rules.specs.Calendar.{entering, monthAfter}
 use Rattle.electric_rules.specs.Rates.{ratesOf}
 use Rattle.electric_rules.specs.Settlement.{remainderAfter, secondaryShare, primaryShare}
 use Rattle.electric_rules.specs.Levels.{levelLine, billedLevel, adjustedLevel, settledLevel, bearingOf, interestOn, accruedLevel, handedOver}
 
--- ---- the book with another period, or with other levels
+-- ---- the book with other parts
 
 abbrev pub withPeriod : ElectricBook → Period → ElectricBook
 withPeriod b period =
@@ -27,6 +28,39 @@ withPeriod b period =
 abbrev pub withLevels : ElectricBook → Level → Level → ElectricBook
 withLevels b secondary primary =
     record { division = b .division; month = b .month; settled = b .settled; period = b .period; secondary = secondary; primary = primary }
+
+-- K, Ss, Sp become 0 and the period is settled
+abbrev pub settledWith : ElectricBook → Remainder → Level → Level → ElectricBook
+settledWith b left secondary primary =
+    record {
+      division = b .division;
+      month = b .month;
+      settled = true;
+      period = record { cost = cents (pos 0); sales = salesOf (pos 0) (pos 0); remainder = left };
+      secondary = secondary;
+      primary = primary;
+    }
+
+-- the month moves on and "settled" is cleared
+abbrev pub endedWith : ElectricBook → ℕ → Level → Level → ElectricBook
+endedWith b month secondary primary =
+    record { division = b .division; month = month; settled = false; period = b .period; secondary = secondary; primary = primary }
+
+-- ---- the open period
+
+-- F, P, E: K grows by their sum
+abbrev pub costAdded : Period → Posting → Period
+costAdded period p =
+    record { cost = cents (period .cost .0 +ℤ (p .first +ℤ p .second +ℤ p .third)); sales = period .sales; remainder = period .remainder }
+
+-- secondary, primary: Ss and Sp grow
+abbrev pub salesAdded : Period → Posting → Period
+salesAdded period p =
+    record {
+      cost = period .cost;
+      sales = salesOf (period .sales .secondary .0 +ℤ p .first) (period .sales .primary .0 +ℤ p .second);
+      remainder = period .remainder;
+    }
 
 -- ---- the level that a bill or an adjustment names: 0 secondary, 1 primary
 
@@ -41,45 +75,31 @@ withLevelAt level b l = cond (isSecondary level) (withLevels b l (b .primary)) (
 
 -- ---- the next book
 
--- F, P, E: K grows by their sum
 unfoldable pub costPosted : ElectricBook → Posting → ElectricBook
-costPosted b p =
-    withPeriod b (periodOf (b .period .cost .0 +ℤ (p .first +ℤ p .second +ℤ p .third)) (b .period .sales) (b .period .remainder .0))
+costPosted b p = withPeriod b (costAdded (b .period) p)
 
--- Ss and Sp grow
 unfoldable pub salesPosted : ElectricBook → Posting → ElectricBook
-salesPosted b p =
-    withPeriod b
-    (periodOf (b .period .cost .0) (salesOf (b .period .sales .secondary .0 +ℤ p .first) (b .period .sales .primary .0 +ℤ p .second)) (b .period .remainder .0))
+salesPosted b p = withPeriod b (salesAdded (b .period) p)
 
 -- level, u
 unfoldable pub billPosted : ElectricBook → Posting → ElectricBook
 billPosted b p = withLevelAt (p .first) b (billedLevel (p .second) (levelAt (p .first) b))
 
--- Rs, Rp: K, Ss, Sp become 0 and the period is settled
+-- Rs, Rp
 unfoldable pub settlePosted : ElectricBook → Posting → ElectricBook
 settlePosted b p =
     let rates = ratesOf (b .division) in
-    record {
-      division = b .division;
-      month = b .month;
-      settled = true;
-      period = periodOf (pos 0) (salesOf (pos 0) (pos 0)) (remainderAfter rates (b .period));
-      secondary = settledLevel (secondaryShare rates (b .period)) (p .first) (b .secondary);
-      primary = settledLevel (primaryShare rates (b .period)) (p .second) (b .primary);
-    }
+    settledWith b (remainder (remainderAfter rates (b .period)))
+    (settledLevel (secondaryShare rates (b .period)) (p .first) (b .secondary))
+    (settledLevel (primaryShare rates (b .period)) (p .second) (b .primary))
 
--- r: interest, then the run that enters; the month moves on and "settled" is cleared
+-- r: interest, then the run that enters
+abbrev pub endedLevel : ℕ → ℤ → Level → Level
+endedLevel month rate l = handedOver (entering month) (accruedLevel rate l)
+
 unfoldable pub monthEnded : ElectricBook → Posting → ElectricBook
 monthEnded b p =
-    record {
-      division = b .division;
-      month = monthAfter (b .month);
-      settled = false;
-      period = b .period;
-      secondary = handedOver (entering (b .month)) (accruedLevel (p .first) (b .secondary));
-      primary = handedOver (entering (b .month)) (accruedLevel (p .first) (b .primary));
-    }
+    endedWith b (monthAfter (b .month)) (endedLevel (b .month) (p .first) (b .secondary)) (endedLevel (b .month) (p .first) (b .primary))
 
 -- level, amount
 unfoldable pub adjustPosted : ElectricBook → Posting → ElectricBook

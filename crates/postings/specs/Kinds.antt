@@ -100,7 +100,7 @@ standsBeyond fields bits = anyStands (drop (length fields) bits)
 unfoldable pub strayNumber : Book → Posting → Bool
 strayNumber book p = standsBeyond (fieldsOf book (p .kind)) (standing (numbersOf p))
 
-abbrev allows : Field → ℤ → Bool
+abbrev pub allows : Field → ℤ → Bool
 allows (between low high) z = inRange low high z
 allows (either x y) z = eqZ z x || eqZ z y
 

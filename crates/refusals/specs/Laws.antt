@@ -99,3 +99,17 @@ module _ {A : Type 0} (rows : List Row) (asked : A) (refused : ℕ → A) where
       go : (t : Bool) → eqb (refusalBy rows) 0 ≡ t → number (cond t asked (refused (refusalBy rows))) ≡ refusalBy rows
       go true e = a ∙ sym (eqb-true (refusalBy rows) 0 e)
       go false e = r (refusalBy rows)
+
+  -- by a table in two parts: a number of the first part stands, and without one the second part decides
+  module _ (more : List Row) (positive : T (numbered rows)) where
+    pub gives-earlier : (n : ℕ) → 0 < n → refusalBy rows ≡ n → byTable (rows ++ more) asked refused ≡ refused n
+    unfolding byTable
+    gives-earlier n h e =
+        let parts : refusalBy (rows ++ more) ≡ n = in-parts rows more positive ∙ simp (e, ne-eqb n 0 (λ z. omega arith)) in
+        simp (parts, ne-eqb n 0 (λ z. omega arith))
+
+    pub gives-later : refusalBy rows ≡ 0 → byTable (rows ++ more) asked refused ≡ byTable more asked refused
+    unfolding byTable
+    gives-later e =
+        let parts : refusalBy (rows ++ more) ≡ refusalBy more = in-parts rows more positive ∙ simp e in
+        ap (λ (n : ℕ). cond (eqb n 0) asked (refused n)) parts

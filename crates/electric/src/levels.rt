@@ -1,0 +1,132 @@
+// What bill, adjust and month end make of a level.
+use amounts::Cents;
+use electric_rules::ElectricBook;
+use electric_rules::Level;
+use electric_rules::Run;
+use postings::Book;
+use postings::Posting;
+ghost use mathlib.Core.Path.{_≡_};
+ghost use mathlib.Core.List.{_∷_, []};
+ghost use Rattle.ints.specs.Range.{Within};
+ghost use Rattle.amounts.specs.Amounts.{cents};
+ghost use Rattle.postings.specs.Kinds.{bill, monthEnd, adjust};
+ghost use Rattle.postings.specs.Held.{Held};
+ghost use Rattle.riders.specs.Lines.{lineOf};
+ghost use Rattle.electric_rules.specs.Levels.{levelLine, billedLevel, adjustedLevel, bearingOf, interestOn, accruedLevel, handedOver};
+ghost use Rattle.electric_rules.specs.Next.{levelAt, withLevelAt};
+ghost use Rattle.electric_rules.specs.Ranges.{RunWithin, LevelWithin};
+
+// The level that a bill or an adjustment names.
+pub(crate) fn level_at(book: ElectricBook, posting: Posting) -> Level
+    ensures { λ r. ⌜ r ≡ levelAt (posting .first) book ⌝ }
+{
+    if posting.first == 0 {
+        return book.secondary;
+    }
+    book.primary
+}
+
+// The book with another level in its place.
+pub(crate) fn with_level_at(book: ElectricBook, posting: Posting, level: Level) -> ElectricBook
+    ensures { λ r. ⌜ r ≡ withLevelAt (posting .first) book level ⌝ }
+{
+    let mut next = book;
+    if posting.first == 0 {
+        next.secondary = level;
+        return next;
+    }
+    next.primary = level;
+    next
+}
+
+// A bill's line.
+pub(crate) fn line(level: Level, posting: Posting) -> Cents
+    requires { ⌜ LevelWithin level × Held Book.Electric bill posting ⌝ }
+    ensures { λ r. ⌜ r ≡ cents (levelLine (posting .second) level) ⌝ }
+{
+    Cents(rounding::round_div(
+        posting.second * (level.first.factor.0 as i64 + level.second.factor.0 as i64),
+        100,
+    ))
+}
+
+// Run 1's part of it.
+fn first_part(run: Run, posting: Posting) -> Cents
+    requires { ⌜ RunWithin run × Held Book.Electric bill posting ⌝ }
+    ensures { λ r. ⌜ r ≡ cents (lineOf (posting .second) (run .factor ∷ [])) ⌝ }
+{
+    Cents(rounding::round_div(
+        posting.second * (run.factor.0 as i64),
+        100,
+    ))
+}
+
+// Each run's due cents fall by its part: run 2's is the line less run 1's.
+pub(crate) fn billed(level: Level, posting: Posting, line: Cents) -> Level
+    requires { ⌜ LevelWithin level × Held Book.Electric bill posting × (line ≡ cents (levelLine (posting .second) level)) ⌝ }
+    ensures { λ r. ⌜ r ≡ billedLevel (posting .second) level ⌝ }
+{
+    let part = first_part(level.first, posting);
+    let first = Cents(level.first.due.0 - part.0);
+    let second = Cents(level.second.due.0 - (line.0 - part.0));
+    let mut next = level;
+    next.first.due = first;
+    next.second.due = second;
+    next
+}
+
+pub(crate) fn adjusted(level: Level, posting: Posting) -> Level
+    requires { ⌜ LevelWithin level × Held Book.Electric adjust posting ⌝ }
+    ensures { λ r. ⌜ r ≡ adjustedLevel (posting .second) level ⌝ }
+{
+    let carried = Cents(level.carried.0 + posting.second);
+    let mut next = level;
+    next.carried = carried;
+    next
+}
+
+// A month's interest, on the balance that bears it.
+pub(crate) fn interest(level: Level, posting: Posting) -> Cents
+    requires { ⌜ LevelWithin level × Held Book.Electric monthEnd posting ⌝ }
+    ensures { λ r. ⌜ r ≡ cents (interestOn (posting .first) (bearingOf level)) ⌝ }
+{
+    Cents(rounding::round_div(
+        posting.first
+            * (level.carried.0 + level.pending.due.0 + level.first.due.0 + level.second.due.0),
+        12_000_000,
+    ))
+}
+
+// The level with that interest accrued.
+pub(crate) fn accrued(level: Level, posting: Posting, interest: Cents) -> Level
+    requires { ⌜ LevelWithin level × Held Book.Electric monthEnd posting × (interest ≡ cents (interestOn (posting .first) (bearingOf level))) ⌝ }
+    ensures { λ r. ⌜ r ≡ accruedLevel (posting .first) level ⌝ }
+{
+    let accrued = Cents(level.interest.0 + interest.0);
+    let mut next = level;
+    next.interest = accrued;
+    next
+}
+
+// The run that enters, 1 or 2, adds its due cents to the carried ones and becomes the pending run.
+pub(crate) fn handed_over(entering: u8, level: Level) -> Level
+    requires { ⌜ Within 1000000000000 (level .carried .0) × RunWithin (level .first) × RunWithin (level .second) ⌝ }
+    ensures { λ r. ⌜ r ≡ handedOver entering level ⌝ }
+{
+    let mut next = level;
+    if entering == 1 {
+        let carried = Cents(level.carried.0 + level.first.due.0);
+        next.carried = carried;
+        next.first = level.pending;
+        next.pending = Run::none();
+        return next;
+    }
+    if entering == 2 {
+        let carried = Cents(level.carried.0 + level.second.due.0);
+        next.carried = carried;
+        next.second = level.pending;
+        next.pending = Run::none();
+        return next;
+    }
+    next
+}
