@@ -9,12 +9,12 @@ use postings::Answer;
 use postings::Book;
 use postings::Posting;
 ghost use mathlib.Core.Path.{_≡_};
-ghost use Rattle.refusals.specs.Rows.{byTable};
 ghost use Rattle.postings.specs.Kinds.{cost, sales, bill, settle, monthEnd, adjust};
 ghost use Rattle.postings.specs.Held.{Held};
 ghost use Rattle.electric_rules.specs.Book.{refused};
+ghost use Rattle.electric_rules.specs.Next.{costAdded, salesAdded};
 ghost use Rattle.electric_rules.specs.Ranges.{PeriodWithin, BookWithin};
-ghost use Rattle.electric.specs.Stored.{storedOr12, costAdded, salesAdded, postedAt};
+ghost use Rattle.electric.specs.Stored.{storedOr12, postedAt};
 
 pub(crate) fn refuse(book: ElectricBook, number: u8) -> Posted
     ensures { λ r. ⌜ r ≡ refused book number ⌝ }
@@ -118,23 +118,28 @@ pub(crate) fn post_settlement(book: ElectricBook, posting: Posting) -> Posted
     requires { ⌜ BookWithin book × Held Book.Electric settle posting ⌝ }
     ensures { λ r. ⌜ r ≡ postedAt settle book posting ⌝ }
 {
-    let shares = crate::settlement::shares_of(crate::settlement::rates_of(book.division), book.period);
-    let secondary = crate::filing::file(shares.secondary, book.secondary, Kwh(posting.first));
-    let primary = crate::filing::file(shares.primary, book.primary, Kwh(posting.second));
-    if !crate::filing::can_be_stored(secondary.factor) {
+    let shares = crate::settlement::shares_of(
+        crate::settlement::rates_of(book.division),
+        book.period,
+    );
+    let on_secondary = crate::filing::file(shares.secondary, book.secondary, Kwh(posting.first));
+    let on_primary = crate::filing::file(shares.primary, book.primary, Kwh(posting.second));
+    if !crate::filing::can_be_stored(on_secondary.factor) {
         return refuse(book, 12);
     }
-    if !crate::filing::can_be_stored(primary.factor) {
+    if !crate::filing::can_be_stored(on_primary.factor) {
         return refuse(book, 12);
     }
-    let secondary_factor = crate::filing::points_of(secondary.factor);
-    let primary_factor = crate::filing::points_of(primary.factor);
+    let secondary = crate::filing::run_of(on_secondary);
+    let primary = crate::filing::run_of(on_primary);
     let next = crate::filing::settled(
         book,
         shares.remainder,
-        crate::filing::filed(book.secondary, secondary_factor, secondary.owed),
-        crate::filing::filed(book.primary, primary_factor, primary.owed),
+        crate::filing::filed(secondary, book.secondary),
+        crate::filing::filed(primary, book.primary),
     );
+    let secondary_factor = secondary.factor;
+    let primary_factor = primary.factor;
     store(
         book,
         next,

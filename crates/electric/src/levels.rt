@@ -6,13 +6,12 @@ use electric_rules::Run;
 use postings::Book;
 use postings::Posting;
 ghost use mathlib.Core.Path.{_≡_};
-ghost use mathlib.Core.List.{_∷_, []};
 ghost use Rattle.ints.specs.Range.{Within};
 ghost use Rattle.amounts.specs.Amounts.{cents};
 ghost use Rattle.postings.specs.Kinds.{bill, monthEnd, adjust};
 ghost use Rattle.postings.specs.Held.{Held};
-ghost use Rattle.riders.specs.Lines.{lineOf};
-ghost use Rattle.electric_rules.specs.Levels.{levelLine, billedLevel, adjustedLevel, bearingOf, interestOn, accruedLevel, handedOver};
+ghost use Rattle.riders.specs.Lines.{partOf};
+ghost use Rattle.electric_rules.specs.Levels.{factorsOf, levelLine, dueLess, billedLevel, adjustedLevel, bearingOf, interestOn, accruedLevel, handedOver};
 ghost use Rattle.electric_rules.specs.Next.{levelAt, withLevelAt};
 ghost use Rattle.electric_rules.specs.Ranges.{RunWithin, LevelWithin};
 
@@ -51,27 +50,41 @@ pub(crate) fn line(level: Level, posting: Posting) -> Cents
 }
 
 // Run 1's part of it.
-fn first_part(run: Run, posting: Posting) -> Cents
-    requires { ⌜ RunWithin run × Held Book.Electric bill posting ⌝ }
-    ensures { λ r. ⌜ r ≡ cents (lineOf (posting .second) (run .factor ∷ [])) ⌝ }
+fn first_part(level: Level, posting: Posting) -> Cents
+    requires { ⌜ LevelWithin level × Held Book.Electric bill posting ⌝ }
+    ensures { λ r. ⌜ r ≡ cents (partOf (posting .second) (factorsOf level) 0) ⌝ }
 {
-    Cents(rounding::round_div(
-        posting.second * (run.factor.0 as i64),
-        100,
-    ))
+    Cents(rounding::round_div(posting.second * (level.first.factor.0 as i64), 100))
 }
 
-// Each run's due cents fall by its part: run 2's is the line less run 1's.
+// Run 2's: the line less that.
+fn second_part(level: Level, posting: Posting, line: Cents, first: Cents) -> Cents
+    requires { ⌜ LevelWithin level × Held Book.Electric bill posting × (line ≡ cents (levelLine (posting .second) level)) × (first ≡ cents (partOf (posting .second) (factorsOf level) 0)) ⌝ }
+    ensures { λ r. ⌜ r ≡ cents (partOf (posting .second) (factorsOf level) 1) ⌝ }
+{
+    Cents(line.0 - first.0)
+}
+
+fn due_less(part: Cents, run: Run) -> Run
+    requires { ⌜ Within 5000000000000 (part .0) × RunWithin run ⌝ }
+    ensures { λ r. ⌜ r ≡ dueLess (part .0) run ⌝ }
+{
+    let due = Cents(run.due.0 - part.0);
+    let mut next = run;
+    next.due = due;
+    next
+}
+
+// Each run's due cents fall by its part of the line.
 pub(crate) fn billed(level: Level, posting: Posting, line: Cents) -> Level
     requires { ⌜ LevelWithin level × Held Book.Electric bill posting × (line ≡ cents (levelLine (posting .second) level)) ⌝ }
     ensures { λ r. ⌜ r ≡ billedLevel (posting .second) level ⌝ }
 {
-    let part = first_part(level.first, posting);
-    let first = Cents(level.first.due.0 - part.0);
-    let second = Cents(level.second.due.0 - (line.0 - part.0));
+    let first = first_part(level, posting);
+    let second = second_part(level, posting, line, first);
     let mut next = level;
-    next.first.due = first;
-    next.second.due = second;
+    next.first = due_less(first, level.first);
+    next.second = due_less(second, level.second);
     next
 }
 
@@ -98,7 +111,7 @@ pub(crate) fn interest(level: Level, posting: Posting) -> Cents
 }
 
 // The level with that interest accrued.
-pub(crate) fn accrued(level: Level, posting: Posting, interest: Cents) -> Level
+fn accrued(level: Level, posting: Posting, interest: Cents) -> Level
     requires { ⌜ LevelWithin level × Held Book.Electric monthEnd posting × (interest ≡ cents (interestOn (posting .first) (bearingOf level))) ⌝ }
     ensures { λ r. ⌜ r ≡ accruedLevel (posting .first) level ⌝ }
 {
@@ -109,24 +122,33 @@ pub(crate) fn accrued(level: Level, posting: Posting, interest: Cents) -> Level
 }
 
 // The run that enters, 1 or 2, adds its due cents to the carried ones and becomes the pending run.
-pub(crate) fn handed_over(entering: u8, level: Level) -> Level
+fn handed_over(entering: u8, level: Level) -> Level
     requires { ⌜ Within 1000000000000 (level .carried .0) × RunWithin (level .first) × RunWithin (level .second) ⌝ }
     ensures { λ r. ⌜ r ≡ handedOver entering level ⌝ }
 {
+    let pending = level.pending;
     let mut next = level;
     if entering == 1 {
         let carried = Cents(level.carried.0 + level.first.due.0);
         next.carried = carried;
-        next.first = level.pending;
         next.pending = Run::none();
+        next.first = pending;
         return next;
     }
     if entering == 2 {
         let carried = Cents(level.carried.0 + level.second.due.0);
         next.carried = carried;
-        next.second = level.pending;
         next.pending = Run::none();
+        next.second = pending;
         return next;
     }
     next
+}
+
+// A level at a month's end: interest, then the handover.
+pub(crate) fn ended(level: Level, posting: Posting, interest: Cents, entering: u8) -> Level
+    requires { ⌜ LevelWithin level × Held Book.Electric monthEnd posting × (interest ≡ cents (interestOn (posting .first) (bearingOf level))) ⌝ }
+    ensures { λ r. ⌜ r ≡ handedOver entering (accruedLevel (posting .first) level) ⌝ }
+{
+    handed_over(entering, accrued(level, posting, interest))
 }

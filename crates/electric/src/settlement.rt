@@ -4,24 +4,22 @@ use electric_rules::Period;
 use electric_rules::Rates;
 use electric_rules::Remainder;
 ghost use mathlib.Core.Path.{_≡_};
-ghost use lib.IntN.{pos, _-ℤ_, _*ℤ_};
-ghost use Rattle.rounding.specs.Round.{round};
 ghost use Rattle.amounts.specs.Amounts.{cents};
 ghost use Rattle.electric_rules.specs.Book.{remainder};
 ghost use Rattle.electric_rules.specs.Rates.{ratesOf};
 ghost use Rattle.electric_rules.specs.Settlement.{shareableOf, shareOf, remainderAfter, weightBy, secondaryShare, primaryShare};
 ghost use Rattle.electric_rules.specs.Ranges.{PeriodWithin};
 ghost use Rattle.electric_rules.specs.Sizes.{RatesWithin};
-ghost use Rattle.electric.specs.Shares.{weight, sharesOf};
+ghost use Rattle.electric.specs.Shares.{asWeight, sharesOf};
 
 // The secondary level's part of the customers' share, in hundred-thousandths.
 pub(crate) struct Weight(i64);
 
 // Both levels' shares, and the remainder that is left.
 pub(crate) struct Shares {
-    secondary: Cents,
-    primary: Cents,
-    remainder: Remainder,
+    pub(crate) secondary: Cents,
+    pub(crate) primary: Cents,
+    pub(crate) remainder: Remainder,
 }
 
 pub(crate) fn rates_of(division: u8) -> Rates
@@ -44,7 +42,7 @@ pub(crate) fn rates_of(division: u8) -> Rates
 }
 
 // What is to be shared: the customers' percentage of the variance, and the remainder of the periods before.
-fn shareable(rates: Rates, period: Period) -> Remainder
+fn shareable_of(rates: Rates, period: Period) -> Remainder
     requires { ⌜ RatesWithin rates × PeriodWithin period ⌝ }
     ensures { λ r. ⌜ r ≡ remainder (shareableOf rates period) ⌝ }
 {
@@ -54,7 +52,7 @@ fn shareable(rates: Rates, period: Period) -> Remainder
 }
 
 // The customers' share in whole cents.
-fn share(rates: Rates, period: Period, shareable: Remainder) -> Cents
+fn share_of(rates: Rates, period: Period, shareable: Remainder) -> Cents
     requires { ⌜ RatesWithin rates × PeriodWithin period × (shareable ≡ remainder (shareableOf rates period)) ⌝ }
     ensures { λ r. ⌜ r ≡ cents (shareOf rates period) ⌝ }
 {
@@ -71,7 +69,7 @@ fn remainder_after(rates: Rates, period: Period, shareable: Remainder, share: Ce
 
 fn weight_by(rates: Rates, period: Period) -> Weight
     requires { ⌜ RatesWithin rates × PeriodWithin period ⌝ }
-    ensures { λ r. ⌜ r ≡ weight (weightBy rates period) ⌝ }
+    ensures { λ r. ⌜ r ≡ asWeight (weightBy rates period) ⌝ }
 {
     Weight(rounding::weight(
         period.sales.secondary.0 * rates.secondary,
@@ -80,7 +78,7 @@ fn weight_by(rates: Rates, period: Period) -> Weight
 }
 
 fn secondary_share(rates: Rates, period: Period, share: Cents, weight: Weight) -> Cents
-    requires { ⌜ RatesWithin rates × PeriodWithin period × (share ≡ cents (shareOf rates period)) × (weight ≡ weight (weightBy rates period)) ⌝ }
+    requires { ⌜ RatesWithin rates × PeriodWithin period × (share ≡ cents (shareOf rates period)) × (weight ≡ asWeight (weightBy rates period)) ⌝ }
     ensures { λ r. ⌜ r ≡ cents (secondaryShare rates period) ⌝ }
 {
     Cents(rounding::round_div(share.0 * weight.0, 100_000))
@@ -98,8 +96,8 @@ pub(crate) fn shares_of(rates: Rates, period: Period) -> Shares
     requires { ⌜ RatesWithin rates × PeriodWithin period ⌝ }
     ensures { λ r. ⌜ r ≡ sharesOf rates period ⌝ }
 {
-    let shareable = shareable(rates, period);
-    let share = share(rates, period, shareable);
+    let shareable = shareable_of(rates, period);
+    let share = share_of(rates, period, shareable);
     let secondary = secondary_share(rates, period, share, weight_by(rates, period));
     Shares {
         secondary,

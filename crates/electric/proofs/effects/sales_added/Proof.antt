@@ -1,0 +1,17 @@
+use Rattle.ints.specs.Bound.{bounds, fits64}
+use Rattle.electric.proofs.effects.sales_added.Statement.{statement}
+use Rattle.electric.proofs.effects.sales_added.Tie as tie
+use Rattle.electric.proofs.effects.sales_added.Reads as reads
+use Rattle.electric.proofs.effects.sales_added.Lts as lts
+
+add-t5 : tie.Need-add-t5
+add-t5 c = fits64 (search bounds depth 30) tt
+
+add-t7 : tie.Need-add-t7
+add-t7 c = fits64 (search bounds depth 30) tt
+
+returns : tie.Need-returns
+returns c = ?
+
+pub sales-added-spec : {M : Type 1} → statement M
+sales-added-spec = tie.close (tie.spec add-t5 add-t7 returns)

@@ -1,0 +1,25 @@
+use Rattle.ints.specs.Bound.{bounds, fits64}
+use borrow.Author.Needs.{needs}
+use Rattle.electric.proofs.filing.file.Statement.{statement}
+use Rattle.electric.proofs.filing.file.Tie as tie
+use Rattle.electric.proofs.filing.file.Reads as reads
+use Rattle.electric.proofs.filing.file.Lts as lts
+use Rattle.rounding.proofs.round_div.Reads as round-div-reads
+
+add-owed : tie.Need-add-owed
+add-owed c = fits64 (search bounds depth 30) tt
+
+add-owed-2 : tie.Need-add-owed-2
+add-owed-2 c = fits64 (search bounds depth 30) tt
+
+mul-round-div : tie.Need-mul-round-div
+mul-round-div c = fits64 (search bounds depth 30) tt
+
+round-div-requires : tie.Need-round-div-requires
+round-div-requires c κs = search needs
+
+returns : tie.Need-returns
+returns c = ?
+
+pub file-spec : {M : Type 1} → statement M
+file-spec = tie.close (tie.spec add-owed add-owed-2 mul-round-div round-div-requires returns)

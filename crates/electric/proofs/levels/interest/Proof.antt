@@ -1,0 +1,36 @@
+use Rattle.ints.specs.Bound.{bounds, fits64}
+use borrow.Author.Needs.{needs}
+use Rattle.electric.proofs.levels.interest.Statement.{statement}
+use Rattle.electric.proofs.levels.interest.Tie as tie
+use Rattle.electric.proofs.levels.interest.Reads as reads
+use Rattle.electric.proofs.levels.interest.Lts as lts
+use Rattle.rounding.proofs.round_div.Reads as round-div-reads
+
+add-round-div : tie.Need-add-round-div
+add-round-div c = fits64 (search bounds depth 30) tt
+
+add-round-div-2 : tie.Need-add-round-div-2
+add-round-div-2 c = fits64 (search bounds depth 30) tt
+
+add-round-div-3 : tie.Need-add-round-div-3
+add-round-div-3 c = fits64 (search bounds depth 30) tt
+
+mul-round-div : tie.Need-mul-round-div
+mul-round-div c = fits64 (search bounds depth 30) tt
+
+round-div-requires : tie.Need-round-div-requires
+round-div-requires c κs = search needs
+
+returns : tie.Need-returns
+returns c = ?
+
+pub interest-spec : {M : Type 1} → statement M
+interest-spec =
+    tie.close
+    (tie.spec
+    add-round-div
+    add-round-div-2
+    add-round-div-3
+    mul-round-div
+    round-div-requires
+    returns)

@@ -1,0 +1,36 @@
+use Rattle.ints.specs.Bound.{bounds, fits64}
+use borrow.Author.Needs.{needs}
+use Rattle.electric.proofs.levels.line.Statement.{statement}
+use Rattle.electric.proofs.levels.line.Tie as tie
+use Rattle.electric.proofs.levels.line.Reads as reads
+use Rattle.electric.proofs.levels.line.Lts as lts
+use Rattle.rounding.proofs.round_div.Reads as round-div-reads
+
+cast-round-div : tie.Need-cast-round-div
+cast-round-div c = fits64 (search bounds depth 30) tt
+
+cast-round-div-2 : tie.Need-cast-round-div-2
+cast-round-div-2 c = fits64 (search bounds depth 30) tt
+
+add-round-div : tie.Need-add-round-div
+add-round-div c = fits64 (search bounds depth 30) tt
+
+mul-round-div : tie.Need-mul-round-div
+mul-round-div c = fits64 (search bounds depth 30) tt
+
+round-div-requires : tie.Need-round-div-requires
+round-div-requires c κs = search needs
+
+returns : tie.Need-returns
+returns c = ?
+
+pub line-spec : {M : Type 1} → statement M
+line-spec =
+    tie.close
+    (tie.spec
+    cast-round-div
+    cast-round-div-2
+    add-round-div
+    mul-round-div
+    round-div-requires
+    returns)

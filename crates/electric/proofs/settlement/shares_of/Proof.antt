@@ -1,0 +1,51 @@
+use borrow.Author.Needs.{needs}
+use Rattle.electric.proofs.settlement.shares_of.Statement.{statement}
+use Rattle.electric.proofs.settlement.shares_of.Tie as tie
+use Rattle.electric.proofs.settlement.shares_of.Reads as reads
+use Rattle.electric.proofs.settlement.shares_of.Lts as lts
+use Rattle.electric.proofs.settlement.primary_share.Reads as primary-share-reads
+use Rattle.electric.proofs.settlement.remainder_after.Reads as remainder-after-reads
+use Rattle.electric.proofs.settlement.secondary_share.Reads as secondary-share-reads
+use Rattle.electric.proofs.settlement.share_of.Reads as share-of-reads
+use Rattle.electric.proofs.settlement.shareable_of.Reads as shareable-of-reads
+use Rattle.electric.proofs.settlement.weight_by.Reads as weight-by-reads
+
+-- src/settlement.rt:99:9
+shareable-of-requires : tie.Need-shareable-of-requires
+shareable-of-requires c κs = search needs
+
+-- src/settlement.rt:100:9
+share-of-requires : tie.Need-share-of-requires
+share-of-requires c κs = search needs
+
+-- src/settlement.rt:101:59
+weight-by-requires : tie.Need-weight-by-requires
+weight-by-requires c κs = search needs
+
+-- src/settlement.rt:101:9
+secondary-share-requires : tie.Need-secondary-share-requires
+secondary-share-requires c κs = search needs
+
+-- src/settlement.rt:104:18
+primary-share-requires : tie.Need-primary-share-requires
+primary-share-requires c κs = search needs
+
+-- src/settlement.rt:105:20
+remainder-after-requires : tie.Need-remainder-after-requires
+remainder-after-requires c κs = search needs
+
+-- src/settlement.rt:95:1
+returns : tie.Need-returns
+returns c = ?
+
+pub shares-of-spec : {M : Type 1} → statement M
+shares-of-spec =
+    tie.close
+    (tie.spec
+    shareable-of-requires
+    share-of-requires
+    weight-by-requires
+    secondary-share-requires
+    primary-share-requires
+    remainder-after-requires
+    returns)
