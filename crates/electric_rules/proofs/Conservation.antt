@@ -2,7 +2,6 @@
 -- from it. Assumes nothing.
 use mathlib.Core.Path.{_≡_, refl, sym, ap, _∙_, subst}
 use mathlib.Core.Bool.{Bool, true, false, cond, not, true≢false}
-use mathlib.Core.List.{List}
 use Prim.Native.Nat.{ℕ}
 use lib.Dec.{T}
 use lib.IntN.{ℤ, pos, _+ℤ_, _*ℤ_}
@@ -10,7 +9,7 @@ use Rattle.postings.specs.Kinds.{Kind, cost, sales, bill, settle, monthEnd, adj
 use Rattle.postings.specs.declared.Book.the-variants.{Electric}
 use Rattle.postings.specs.declared.Posting.{Posting}
 use Rattle.postings.specs.declared.Answer.the-variants.{Done}
-use Rattle.riders.specs.Histories.{accepted, lineAnswered, bookAfter, entriesOf, tallyAfter, kept-after}
+use Rattle.riders.specs.Histories.{accepted, lineAnswered, kept-after}
 use Rattle.electric_rules.proofs.Waiting.{clear, clear-to-settle, turns, all-turn}
 use Rattle.electric_rules.proofs.Shares.{Shared, fresh-shared, settled-shared, shared-near}
 use Rattle.electric_rules.proofs.Accepted.{by-table, settle-allowed, month-to, month-settled}
@@ -21,7 +20,7 @@ use Rattle.electric_rules.specs.declared.Sales.{Sales}
 use Rattle.electric_rules.specs.declared.Level.{Level}
 use Rattle.electric_rules.specs.declared.ElectricBook.{ElectricBook}
 use Rattle.electric_rules.specs.declared.Posted.{Posted}
-use Rattle.electric_rules.specs.Book.{salesOf, periodOf, freshLevel, freshOf, openedOf}
+use Rattle.electric_rules.specs.Book.{salesOf, periodOf, posted, refused, freshLevel, freshOf, openedOf}
 use Rattle.electric_rules.specs.Calendar.{entering}
 use Rattle.electric_rules.specs.Rates.{ratesOf}
 use Rattle.electric_rules.specs.Settlement.{remainderAfter, secondaryShare, primaryShare}
@@ -149,7 +148,7 @@ posting-keeps rates b t p k =
     (λ none. by-kind rates b t p k (kindOf (p .kind)) (none .0) (none .1 .1 .0) (none .1 .1 .1 .1 .0))
     (λ n. k)
 
--- ---- a list of postings to a fresh book
+-- ---- a list of postings to an opened book
 
 fresh-kept : (division : ℕ) → Kept (ratesOf division) (freshOf division) freshTally
 unfolding heldBy
@@ -163,6 +162,13 @@ fresh-kept division =
       shares = fresh-shared (ratesOf division);
     }
 
+opened-kept : (division : ℕ) → openedOf division .answer ≡ Done → Kept (ratesOf division) (openedOf division .book) freshTally
+unfolding openedOf
+opened-kept division =
+    by-table (λ (r : Posted). r .answer ≡ Done → Kept (ratesOf division) (r .book) freshTally) _ (posted Done (freshOf division)) (refused (freshOf 0)) tt
+    (λ none done. fresh-kept division)
+    (λ n done. absurd (true≢false (sym (ap accepted done))))
+
 balances : (rates : Rates) (b : ElectricBook) (t : Tally) → Kept rates b t → Balances rates b t
 balances rates b t k =
     record {
@@ -172,12 +178,7 @@ balances rates b t k =
     }
 
 pub no-cent-lost : NoCentLost
-unfolding NoCentLost openedOf
-no-cent-lost division =
+unfolding NoCentLost
+no-cent-lost division done postings =
     let rates = ratesOf division in
-    by-table
-    (λ (r : Posted). r .answer ≡ Done → (postings : List Posting) →
-    Balances rates (bookAfter leftBy (r .book) postings) (tallyAfter (countOf rates) freshTally (entriesOf leftBy answeredBy (r .book) postings)))
-    _ _ _ tt
-    (λ none done postings. balances rates _ _ (kept-after leftBy answeredBy (countOf rates) (Kept rates) (posting-keeps rates) _ _ postings (fresh-kept division)))
-    (λ n done. absurd (true≢false (sym (ap accepted done))))
+    balances rates _ _ (kept-after leftBy answeredBy (countOf rates) (Kept rates) (posting-keeps rates) _ _ postings (opened-kept division done))
