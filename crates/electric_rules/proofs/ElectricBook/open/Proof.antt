@@ -1,6 +1,7 @@
 -- `ElectricBook::open` gives what the rules open: the one row of its table holds where the test is taken. Assumes nothing.
 use mathlib.Core.Path.{sym, _∙_}
 use mathlib.Core.List.{[], _∷_}
+use Prim.Native.Nat.{_<_, _≤_}
 use native.Mathlib.Omega.{arith}
 use borrow.Author.Tests.{lt-ltb, le-ltb}
 use Rattle.refusals.specs.Rows.{row}
@@ -19,14 +20,18 @@ fresh-requires c κs = search needs
 
 returns : tie.Need-returns
 unfolding openedOf
-returns c = (λ i. refused (c .fresh .ensures i) 7) ∙ sym (gives-refusal (row 7 _ ∷ []) _ _ 7 (omega arith) (at-row 7 [] (lt-ltb _ _ (c .before .if1 .taken))))
+returns c =
+    let h : 1 < c .before .before .args .division = omega (arith, c .before .if1 .taken) in
+    (λ i. refused (c .fresh .ensures i) 7) ∙ sym (gives-refusal (row 7 _ ∷ []) _ _ 7 (omega arith) (at-row 7 [] (lt-ltb _ _ h)))
 
 fresh-requires-2 : tie.Need-fresh-requires-2
 fresh-requires-2 c κs = search needs
 
 returns-2 : tie.Need-returns-2
 unfolding openedOf
-returns-2 c = (λ i. posted Done (c .fresh2 .ensures i)) ∙ sym (gives-asked (row 7 _ ∷ []) _ _ (accepted (row 7 _ ∷ []) (le-ltb _ _ (c .before .if1 .left), tt)))
+returns-2 c =
+    let h : c .before .before .args .division ≤ 1 = omega (arith, c .before .if1 .left) in
+    (λ i. posted Done (c .fresh2 .ensures i)) ∙ sym (gives-asked (row 7 _ ∷ []) _ _ (accepted (row 7 _ ∷ []) (le-ltb _ _ h, tt)))
 
 pub open-spec : {M : Type 1} → statement M
 open-spec = tie.close (tie.spec fresh-requires returns fresh-requires-2 returns-2)

@@ -1,0 +1,184 @@
+-- No cent is lost: what book and tally share is so of a fresh book, each posting keeps it, and so does a list of them; the claim follows
+-- from it. Assumes nothing.
+use mathlib.Core.Path.{_≡_, refl, sym, ap, _∙_, subst}
+use mathlib.Core.Bool.{Bool, true, false, cond, not, true≢false}
+use Prim.Native.Nat.{ℕ}
+use lib.Dec.{T}
+use lib.IntN.{ℤ, pos, _+ℤ_, _*ℤ_}
+use Rattle.postings.specs.Kinds.{Kind, cost, sales, bill, settle, monthEnd, adjust, reconcile, unknown, kindOf, tableOf, isNone, unknownKind}
+use Rattle.postings.specs.declared.Book.the-variants.{Electric}
+use Rattle.postings.specs.declared.Posting.{Posting}
+use Rattle.postings.specs.declared.Answer.the-variants.{Done}
+use Rattle.riders.specs.Histories.{accepted, lineAnswered, kept-after}
+use Rattle.electric_rules.proofs.Waiting.{clear, clear-to-settle, turns, all-turn}
+use Rattle.electric_rules.proofs.Shares.{Shared, fresh-shared, settled-shared, shared-near}
+use Rattle.electric_rules.proofs.Accepted.{by-table, settle-allowed, month-to, month-settled}
+use Rattle.electric_rules.proofs.LevelSteps.{LevelKept, billed-keeps, adjusted-keeps, settled-keeps, ended-keeps}
+use Rattle.electric_rules.specs.declared.Rates.{Rates}
+use Rattle.electric_rules.specs.declared.Period.{Period}
+use Rattle.electric_rules.specs.declared.Sales.{Sales}
+use Rattle.electric_rules.specs.declared.Level.{Level}
+use Rattle.electric_rules.specs.declared.ElectricBook.{ElectricBook}
+use Rattle.electric_rules.specs.declared.Posted.{Posted}
+use Rattle.electric_rules.specs.Book.{salesOf, periodOf, posted, refused, freshLevel, freshOf, openedOf}
+use Rattle.electric_rules.specs.Calendar.{entering}
+use Rattle.electric_rules.specs.Rates.{ratesOf}
+use Rattle.electric_rules.specs.Settlement.{remainderAfter, secondaryShare, primaryShare}
+use Rattle.electric_rules.specs.Levels.{heldBy}
+use Rattle.electric_rules.specs.Next.{withPeriod, withLevels, isSecondary, costPosted, salesPosted, billPosted, settlePosted, monthEnded, adjustPosted, nextAt, lineAnswer, filedAnswer, interestAnswer, answerAt}
+use Rattle.electric_rules.specs.Limits.{inLimits}
+use Rattle.electric_rules.specs.Refusals.{forbidden, postOf}
+use Rattle.electric_rules.specs.Tally.{LevelTally, Tally, freshLevelTally, freshTally, withPeriodTally, withLevelTallies, costCounted, salesCounted, lineCounted, shareCounted, settleCounted, interestCounted, adjustmentCounted, countAt, countOf}
+use Rattle.electric_rules.specs.Claim.{Balances, leftBy, answeredBy, NoCentLost}
+
+-- nothing can be pending
+abbrev clearIn : ElectricBook → Bool
+clearIn b = clear (b .month) (b .settled)
+
+-- what book and tally share
+record Kept (rates : Rates) (b : ElectricBook) (t : Tally) : Type 0 where
+  division : ratesOf (b .division) ≡ rates
+  period : b .period ≡ t .period
+  secondary : LevelKept (clearIn b) (b .secondary) (t .secondary)
+  primary : LevelKept (clearIn b) (b .primary) (t .primary)
+  shares : Shared rates t
+
+-- ---- an accepted posting, by kind
+
+module _ (rates : Rates) (b : ElectricBook) (t : Tally) (p : Posting) (k : Kept rates b t) where
+  -- the tally takes from an answer that it was accepted, and the line
+  abbrev Keeps : Kind → Type 0
+  Keeps kind = Kept rates (nextAt kind b p) (cond (accepted (answerAt kind b p)) (countAt kind rates t p (lineAnswered (answerAt kind b p))) t)
+
+  -- cost and sales change the period alone, and not its remainder
+  period-keeps :
+      (costAfter : Period → ℤ) (salesAfter : Period → Sales) →
+      Kept rates (withPeriod b (periodOf (costAfter (b .period)) (salesAfter (b .period)) (b .period .remainder .0)))
+      (withPeriodTally t (periodOf (costAfter (t .period)) (salesAfter (t .period)) (t .period .remainder .0)))
+  period-keeps costAfter salesAfter =
+      record {
+        division = k .division;
+        period = ap (λ (q : Period). periodOf (costAfter q) (salesAfter q) (q .remainder .0)) (k .period);
+        secondary = k .secondary;
+        primary = k .primary;
+        shares = k .shares;
+      }
+
+  cost-keeps : Keeps cost
+  unfolding nextAt answerAt countAt costPosted costCounted
+  cost-keeps = period-keeps (λ q. costPosted (withPeriod b q) p .period .cost .0) (λ q. q .sales)
+
+  sales-keeps : Keeps sales
+  unfolding nextAt answerAt countAt salesPosted salesCounted
+  sales-keeps = period-keeps (λ q. q .cost .0) (λ q. salesPosted (withPeriod b q) p .period .sales)
+
+  -- bill and adjust change the level that they name alone, and not its shares
+  levels-keep :
+      (l m : Level) (u v : LevelTally) → u .shares ≡ t .secondary .shares → v .shares ≡ t .primary .shares →
+      LevelKept (clearIn b) l u → LevelKept (clearIn b) m v → Kept rates (withLevels b l m) (withLevelTallies t u v)
+  levels-keep l m u v e f secondary primary =
+      record {
+        division = k .division;
+        period = k .period;
+        secondary = secondary;
+        primary = primary;
+        shares = ((λ i. pos 100000 *ℤ (e i +ℤ f i) +ℤ t .period .remainder .0) ∙ k .shares .0, k .shares .1);
+      }
+
+  one-level :
+      (first : Bool) (l : Level) (u : LevelTally) → u .shares ≡ cond first (t .secondary) (t .primary) .shares → LevelKept (clearIn b) l u →
+      Kept rates (cond first (withLevels b l (b .primary)) (withLevels b (b .secondary) l))
+      (cond first (withLevelTallies t u (t .primary)) (withLevelTallies t (t .secondary) u))
+  one-level true l u same kept = levels-keep l (b .primary) u (t .primary) same refl kept (k .primary)
+  one-level false l u same kept = levels-keep (b .secondary) l (t .secondary) u refl same (k .secondary) kept
+
+  level-kept : (first : Bool) → LevelKept (clearIn b) (cond first (b .secondary) (b .primary)) (cond first (t .secondary) (t .primary))
+  level-kept true = k .secondary
+  level-kept false = k .primary
+
+  bill-keeps : Keeps bill
+  unfolding nextAt answerAt countAt billPosted lineAnswer lineCounted
+  bill-keeps = one-level (isSecondary (p .first)) _ _ refl (billed-keeps _ _ (level-kept (isSecondary (p .first))) (p .second))
+
+  adjust-keeps : Keeps adjust
+  unfolding nextAt answerAt countAt adjustPosted adjustmentCounted
+  adjust-keeps = one-level (isSecondary (p .first)) _ _ refl (adjusted-keeps _ _ (level-kept (isSecondary (p .first))) (p .second))
+
+  settle-keeps : forbidden settle b ≡ false → Keeps settle
+  unfolding nextAt answerAt countAt settlePosted filedAnswer settleCounted shareCounted clear
+  settle-keeps allowed =
+      let now = settle-allowed b allowed in
+      let nothing : clearIn b ≡ true = ap (clear (b .month)) (now .0) ∙ clear-to-settle (b .month) (now .1) in
+      record {
+        division = k .division;
+        period = λ i. periodOf (pos 0) (salesOf (pos 0) (pos 0)) (remainderAfter (k .division i) (k .period i));
+        secondary = settled-keeps (b .secondary) (t .secondary) (k .secondary) _ _ (p .first) (λ i. secondaryShare (k .division i) (k .period i)) nothing;
+        primary = settled-keeps (b .primary) (t .primary) (k .primary) _ _ (p .second) (λ i. primaryShare (k .division i) (k .period i)) nothing;
+        shares = settled-shared rates t (k .shares);
+      }
+
+  month-keeps : not (inLimits b) ≡ false → forbidden monthEnd b ≡ false → Keeps monthEnd
+  unfolding nextAt answerAt countAt monthEnded interestAnswer interestCounted
+  month-keeps limits allowed =
+      let turn = subst (λ (settled : Bool). T (turns (b .month) settled)) (sym (month-settled b limits allowed)) (all-turn (b .month) (month-to b limits)) in
+      record {
+        division = k .division;
+        period = k .period;
+        secondary = ended-keeps (b .secondary) (t .secondary) (k .secondary) (p .first) _ (entering (b .month)) turn;
+        primary = ended-keeps (b .primary) (t .primary) (k .primary) (p .first) _ (entering (b .month)) turn;
+        shares = k .shares;
+      }
+
+  by-kind : (kind : Kind) → isNone (tableOf Electric kind) ≡ false → not (inLimits b) ≡ false → forbidden kind b ≡ false → Keeps kind
+  by-kind cost known limits allowed = cost-keeps
+  by-kind sales known limits allowed = sales-keeps
+  by-kind bill known limits allowed = bill-keeps
+  by-kind settle known limits allowed = settle-keeps allowed
+  by-kind monthEnd known limits allowed = month-keeps limits allowed
+  by-kind adjust known limits allowed = adjust-keeps
+  by-kind reconcile known limits allowed = absurd (true≢false known)
+  by-kind unknown known limits allowed = absurd (true≢false known)
+
+-- ---- a posting, accepted or refused
+
+posting-keeps : (rates : Rates) (b : ElectricBook) (t : Tally) (p : Posting) → Kept rates b t → Kept rates (leftBy b p) (countOf rates t p (answeredBy b p))
+unfolding postOf countOf unknownKind
+posting-keeps rates b t p k =
+    by-table (λ (r : Posted). Kept rates (r .book) (countOf rates t p (r .answer))) _ _ _ tt
+    (λ none. by-kind rates b t p k (kindOf (p .kind)) (none .0) (none .1 .1 .0) (none .1 .1 .1 .1 .0))
+    (λ n. k)
+
+-- ---- a list of postings to an opened book
+
+fresh-kept : (division : ℕ) → Kept (ratesOf division) (freshOf division) freshTally
+unfolding heldBy
+fresh-kept division =
+    let level : LevelKept _ freshLevel freshLevelTally = record { balances = refl; accrued = refl; pending = λ c. refl } in
+    record {
+      division = refl;
+      period = refl;
+      secondary = level;
+      primary = level;
+      shares = fresh-shared (ratesOf division);
+    }
+
+opened-kept : (division : ℕ) → openedOf division .answer ≡ Done → Kept (ratesOf division) (openedOf division .book) freshTally
+unfolding openedOf
+opened-kept division =
+    by-table (λ (r : Posted). r .answer ≡ Done → Kept (ratesOf division) (r .book) freshTally) _ (posted Done (freshOf division)) (refused (freshOf 0)) tt
+    (λ none done. fresh-kept division)
+    (λ n done. absurd (true≢false (sym (ap accepted done))))
+
+balances : (rates : Rates) (b : ElectricBook) (t : Tally) → Kept rates b t → Balances rates b t
+balances rates b t k =
+    record {
+      secondary = k .secondary .balances;
+      primary = k .primary .balances;
+      shares = shared-near rates t (k .shares);
+    }
+
+pub no-cent-lost : NoCentLost
+unfolding NoCentLost
+no-cent-lost division done postings =
+    let rates = ratesOf division in
+    balances rates _ _ (kept-after leftBy answeredBy (countOf rates) (Kept rates) (posting-keeps rates) _ _ postings (opened-kept division done))

@@ -1,0 +1,7 @@
+-- That no cent is lost over any list of postings, in the order in which to read it.
+pub mod Waiting
+pub mod Held
+pub mod Shares
+pub mod Accepted
+pub mod LevelSteps
+pub mod Conservation
