@@ -1,4 +1,4 @@
--- A bill's line and its two parts, as the code works them out, and their sizes. Assumes nothing.
+-- A bill's line and its two parts, as the code works them out, with their sizes and that of a month's interest. Assumes nothing.
 use mathlib.Core.Path.{_≡_, sym, _∙_, ap}
 use mathlib.Core.List.{[], _∷_}
 use lib.IntN.{ℤ, pos, negℤ, _+ℤ_, _-ℤ_, _*ℤ_}
@@ -9,7 +9,7 @@ use Rattle.rounding.specs.Round.{round}
 use Rattle.rounding.specs.Laws.{rounds}
 use Rattle.riders.specs.Lines.{lineOf, partOf, no-line}
 use Rattle.electric_rules.specs.declared.Level.{Level}
-use Rattle.electric_rules.specs.Levels.{factorsOf, levelLine}
+use Rattle.electric_rules.specs.Levels.{factorsOf, levelLine, bearingOf, interestOn}
 use Rattle.electric_rules.specs.Ranges.{LevelWithin}
 
 module _ (u : ℤ) (l : Level) where
@@ -44,3 +44,8 @@ module _ (u : ℤ) (l : Level) where
     pub second-within : Within 5000000000000 (partOf u (factorsOf l) 1)
     unfolding partOf lineOf
     second-within = within-by (search (bounds, rounds) depth 30) tt
+
+-- a month's interest
+pub interest-within : (rate : ℤ) (l : Level) → Between (pos 0) (pos 200000) rate → LevelWithin l → Within 100000000000 (interestOn rate (bearingOf l))
+unfolding interestOn bearingOf
+interest-within rate l rs ls = within-by (search (bounds, rounds) depth 30) tt

@@ -1,2 +1,5 @@
--- Laws of bills, of what is left of a table, and of settlements, over plain values, that the functions' proofs cite.
+-- Laws over plain values that the functions' proofs cite.
+pub mod Parts
 pub mod Bills
+pub mod Settling
+pub mod Ready

@@ -118,31 +118,10 @@ pub(crate) fn post_settlement(book: ElectricBook, posting: Posting) -> Posted
     requires { ⌜ BookWithin book × Held Book.Electric settle posting ⌝ }
     ensures { λ r. ⌜ r ≡ postedAt settle book posting ⌝ }
 {
-    let shares = crate::settlement::shares_of(
-        crate::settlement::rates_of(book.division),
-        book.period,
-    );
-    let on_secondary = crate::filing::file(shares.secondary, book.secondary, Kwh(posting.first));
-    let on_primary = crate::filing::file(shares.primary, book.primary, Kwh(posting.second));
-    if !crate::filing::can_be_stored(on_secondary.factor) {
+    let filings = crate::filing::filings_of(book, posting);
+    if !crate::filing::can_be_stored(filings) {
         return refuse(book, 12);
     }
-    if !crate::filing::can_be_stored(on_primary.factor) {
-        return refuse(book, 12);
-    }
-    let secondary = crate::filing::run_of(on_secondary);
-    let primary = crate::filing::run_of(on_primary);
-    let next = crate::filing::settled(
-        book,
-        shares.remainder,
-        crate::filing::filed(secondary, book.secondary),
-        crate::filing::filed(primary, book.primary),
-    );
-    let secondary_factor = secondary.factor;
-    let primary_factor = primary.factor;
-    store(
-        book,
-        next,
-        Answer::FiledLevels(secondary_factor, primary_factor),
-    )
+    let next = crate::filing::settled(book, filings);
+    store(book, next, crate::filing::answer(filings))
 }

@@ -1,6 +1,6 @@
 -- Ranges: `inRange low high z` is the test low ≤ z ≤ high, and `Between low high z` what it shows. `Within n z` is the range ±n.
 -- `omega signed` reads and proves both. Assumes nothing.
-use mathlib.Core.Path.{_≡_}
+use mathlib.Core.Path.{_≡_, sym, subst}
 use mathlib.Core.Bool.{Bool, true, _&&_}
 use Prim.Native.Nat.{ℕ}
 use lib.IntN.{ℤ, pos, negℤ}
@@ -31,3 +31,7 @@ inRange-yes low high z h =
     let p : leZ low z ≡ true = omega signed in
     let q : leZ z high ≡ true = omega signed in
     simp (p, q)
+
+-- the range of a number that is known to be another
+pub between-same : {low high x y : ℤ} → x ≡ y → Between low high y → Between low high x
+between-same {low} {high} e h = subst (λ (z : ℤ). Between low high z) (sym e) h

@@ -1,3 +1,6 @@
+-- `effects::sales_added` adds the sales to the period. Assumes nothing.
+use Rattle.ints.specs.Exact.{exacts, exact}
+use Rattle.electric.proofs.Parts.{same-sales}
 use Rattle.ints.specs.Bound.{bounds, fits64}
 use Rattle.electric.proofs.effects.sales_added.Statement.{statement}
 use Rattle.electric.proofs.effects.sales_added.Tie as tie
@@ -11,7 +14,7 @@ add-t7 : tie.Need-add-t7
 add-t7 c = fits64 (search bounds depth 30) tt
 
 returns : tie.Need-returns
-returns c = ?
+returns c = same-sales (c .before .before .before .before .before .before .before .before .args .period) (exact (search exacts depth 30) tt) (exact (search exacts depth 30) tt)
 
 pub sales-added-spec : {M : Type 1} → statement M
 sales-added-spec = tie.close (tie.spec add-t5 add-t7 returns)

@@ -1,3 +1,8 @@
+-- `levels::billed` is the billed level: each run's due cents fall by its part. Assumes nothing.
+use mathlib.Core.Path.{_∙_}
+use Rattle.ints.specs.Range.{between-same}
+use Rattle.electric_rules.specs.Levels.{dueLess, billedLevel}
+use Rattle.electric.proofs.Bills.{first-within, second-within}
 use borrow.Author.Needs.{needs}
 use Rattle.electric.proofs.levels.billed.Statement.{statement}
 use Rattle.electric.proofs.levels.billed.Tie as tie
@@ -7,25 +12,28 @@ use Rattle.electric.proofs.levels.due_less.Reads as due-less-reads
 use Rattle.electric.proofs.levels.first_part.Reads as first-part-reads
 use Rattle.electric.proofs.levels.second_part.Reads as second-part-reads
 
--- src/levels.rt:83:9
 first-part-requires : tie.Need-first-part-requires
 first-part-requires c κs = search needs
 
--- src/levels.rt:84:9
 second-part-requires : tie.Need-second-part-requires
 second-part-requires c κs = search needs
 
--- src/levels.rt:86:5
 due-less-requires : tie.Need-due-less-requires
-due-less-requires c κs = ?
+due-less-requires c κs = let s = c .before .before .args in
+    let w = c .before .before .pre in
+    (between-same (λ i. c .before .first-part .ensures i .0) (first-within (s .posting .second) (s .level) (w .1 .1 .0) (w .0)), w .0 .first)
 
--- src/levels.rt:87:5
 due-less-requires-2 : tie.Need-due-less-requires-2
-due-less-requires-2 c κs = ?
+due-less-requires-2 c κs = let s = c .before .before .before .args in
+    let w = c .before .before .before .pre in
+    (between-same (λ i. c .before .second-part .ensures i .0) (second-within (s .posting .second) (s .level) (w .1 .1 .0) (w .0)), w .0 .second)
 
--- src/levels.rt:79:1
 returns : tie.Need-returns
-returns c = ?
+unfolding billedLevel
+returns c = let l = c .before .before .before .before .args .level in
+    let first = c .before .due-less .ensures ∙ (λ i. dueLess (c .before .before .before .first-part .ensures i .0) (l .first)) in
+    let second = c .due-less2 .ensures ∙ (λ i. dueLess (c .before .before .second-part .ensures i .0) (l .second)) in
+    λ i. record { carried = l .carried; interest = l .interest; pending = l .pending; first = first i; second = second i }
 
 pub billed-spec : {M : Type 1} → statement M
 billed-spec =

@@ -1,3 +1,9 @@
+-- `levels::ended` is the level at a month's end: interest, then the handover. Assumes nothing.
+use mathlib.Core.Path.{sym, ap, _∙_, subst}
+use Rattle.ints.specs.Range.{Within}
+use Rattle.electric_rules.specs.Levels.{accruedLevel, handedOver}
+use Rattle.electric_rules.specs.Ranges.{RunWithin}
+use Rattle.electric_rules.specs.declared.Level.{Level}
 use borrow.Author.Needs.{needs}
 use Rattle.electric.proofs.levels.ended.Statement.{statement}
 use Rattle.electric.proofs.levels.ended.Tie as tie
@@ -6,17 +12,16 @@ use Rattle.electric.proofs.levels.ended.Lts as lts
 use Rattle.electric.proofs.levels.accrued.Reads as accrued-reads
 use Rattle.electric.proofs.levels.handed_over.Reads as handed-over-reads
 
--- src/levels.rt:153:27
 accrued-requires : tie.Need-accrued-requires
 accrued-requires c κs = search needs
 
--- src/levels.rt:153:5
 handed-over-requires : tie.Need-handed-over-requires
-handed-over-requires c κs = ?
+unfolding accruedLevel
+handed-over-requires c κs = let l = c .before .pre .0 in
+    subst (λ (m : Level). Within 1000000000000 (m .carried .0) × RunWithin (m .first) × RunWithin (m .second)) (sym (c .accrued .ensures)) (l .carried, l .first, l .second)
 
--- src/levels.rt:149:1
 returns : tie.Need-returns
-returns c = ?
+returns c = c .handed-over .ensures ∙ ap (handedOver (c .before .before .args .entering)) (c .before .accrued .ensures)
 
 pub ended-spec : {M : Type 1} → statement M
 ended-spec = tie.close (tie.spec accrued-requires handed-over-requires returns)

@@ -1,3 +1,8 @@
+-- `levels::interest` is the month's interest on the balance that bears it. Assumes nothing.
+use Rattle.ints.specs.Exact.{exacts, e-eq, exact}
+use Rattle.rounding.specs.Laws.{rounds}
+use Rattle.electric.proofs.Parts.{same-cents}
+use Rattle.electric_rules.specs.Levels.{bearingOf, interestOn}
 use Rattle.ints.specs.Bound.{bounds, fits64}
 use borrow.Author.Needs.{needs}
 use Rattle.electric.proofs.levels.interest.Statement.{statement}
@@ -16,13 +21,18 @@ add-round-div-3 : tie.Need-add-round-div-3
 add-round-div-3 c = fits64 (search bounds depth 30) tt
 
 mul-round-div : tie.Need-mul-round-div
-mul-round-div c = fits64 (search bounds depth 30) tt
+mul-round-div c = let l = c .before .before .before .before .before .before .before .before .pre .0 in
+    let r = c .before .before .before .before .before .before .before .before .pre .1 .0 in
+    fits64 (search (bounds, r, l .carried, l .pending .due, l .first .due, l .second .due) depth 30) tt
 
 round-div-requires : tie.Need-round-div-requires
 round-div-requires c κs = search needs
 
 returns : tie.Need-returns
-returns c = ?
+unfolding interestOn bearingOf
+returns c = let l = c .before .before .before .before .before .before .before .before .before .pre .0 in
+    let r = c .before .before .before .before .before .before .before .before .before .pre .1 .0 in
+    same-cents (exact (search (exacts, rounds, e-eq, r, l .carried, l .pending .due, l .first .due, l .second .due) depth 30) tt)
 
 pub interest-spec : {M : Type 1} → statement M
 interest-spec =

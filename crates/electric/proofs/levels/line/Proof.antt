@@ -1,3 +1,13 @@
+-- `levels::line` is the line of both factors together. Assumes nothing.
+use mathlib.Core.Path.{_≡_, _∙_}
+use lib.IntN.{pos, _+ℤ_, _*ℤ_}
+use mir.Syntax.{w64}
+use mir.Val.{toZ, ofZ}
+use Rattle.rounding.specs.Round.{round}
+use Rattle.ints.specs.Exact.{exacts, e-eq, exact}
+use Rattle.rounding.specs.Laws.{rounds}
+use Rattle.electric.proofs.Parts.{same-cents}
+use Rattle.electric.proofs.Bills.{line-is}
 use Rattle.ints.specs.Bound.{bounds, fits64}
 use borrow.Author.Needs.{needs}
 use Rattle.electric.proofs.levels.line.Statement.{statement}
@@ -22,7 +32,10 @@ round-div-requires : tie.Need-round-div-requires
 round-div-requires c κs = search needs
 
 returns : tie.Need-returns
-returns c = ?
+returns c = let l = c .before .before .before .before .before .before .before .args .level in
+    let u = c .before .before .before .before .before .before .before .args .posting .second in
+    let e : toZ w64 (ofZ w64 (c .round-div .result)) ≡ round (u *ℤ (l .first .factor .0 +ℤ l .second .factor .0)) (pos 100) = exact (search (exacts, rounds, e-eq) depth 30) tt in
+    same-cents (e ∙ line-is u l)
 
 pub line-spec : {M : Type 1} → statement M
 line-spec =

@@ -1,15 +1,19 @@
+-- `settlement::rates_of` gives the rates of the division. Assumes nothing.
+use mathlib.Core.Path.{sym}
+use borrow.Author.Tests.{ne-eqb}
+use Rattle.electric_rules.specs.Rates.{ratesOf}
 use Rattle.electric.proofs.settlement.rates_of.Statement.{statement}
 use Rattle.electric.proofs.settlement.rates_of.Tie as tie
 use Rattle.electric.proofs.settlement.rates_of.Reads as reads
 use Rattle.electric.proofs.settlement.rates_of.Lts as lts
 
--- src/settlement.rt:29:9
 returns : tie.Need-returns
-returns c = ?
+unfolding ratesOf
+returns c = sym (simp (c .if1 .taken))
 
--- src/settlement.rt:25:1
 returns-2 : tie.Need-returns-2
-returns-2 c = ?
+unfolding ratesOf
+returns-2 c = sym (simp (ne-eqb _ _ (c .if1 .left)))
 
 pub rates-of-spec : {M : Type 1} → statement M
 rates-of-spec = tie.close (tie.spec returns returns-2)

@@ -1,3 +1,7 @@
+-- `settlement::shareable_of` is what the period is to share. Assumes nothing.
+use Rattle.ints.specs.Exact.{exacts, exact}
+use Rattle.electric.proofs.Parts.{same-remainder}
+use Rattle.electric_rules.specs.Settlement.{varianceOf, shareableOf}
 use Rattle.ints.specs.Bound.{bounds, fits64}
 use Rattle.electric.proofs.settlement.shareable_of.Statement.{statement}
 use Rattle.electric.proofs.settlement.shareable_of.Tie as tie
@@ -23,7 +27,8 @@ add-t6 : tie.Need-add-t6
 add-t6 c = fits64 (search bounds depth 30) tt
 
 returns : tie.Need-returns
-returns c = ?
+unfolding shareableOf varianceOf
+returns c = same-remainder (exact (search exacts depth 30) tt)
 
 pub shareable-of-spec : {M : Type 1} → statement M
 shareable-of-spec =

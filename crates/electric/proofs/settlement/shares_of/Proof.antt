@@ -1,3 +1,4 @@
+-- `settlement::shares_of` gives both shares and the remainder, each by its own function. Assumes nothing.
 use borrow.Author.Needs.{needs}
 use Rattle.electric.proofs.settlement.shares_of.Statement.{statement}
 use Rattle.electric.proofs.settlement.shares_of.Tie as tie
@@ -10,33 +11,26 @@ use Rattle.electric.proofs.settlement.share_of.Reads as share-of-reads
 use Rattle.electric.proofs.settlement.shareable_of.Reads as shareable-of-reads
 use Rattle.electric.proofs.settlement.weight_by.Reads as weight-by-reads
 
--- src/settlement.rt:99:9
 shareable-of-requires : tie.Need-shareable-of-requires
 shareable-of-requires c κs = search needs
 
--- src/settlement.rt:100:9
 share-of-requires : tie.Need-share-of-requires
 share-of-requires c κs = search needs
 
--- src/settlement.rt:101:59
 weight-by-requires : tie.Need-weight-by-requires
 weight-by-requires c κs = search needs
 
--- src/settlement.rt:101:9
 secondary-share-requires : tie.Need-secondary-share-requires
 secondary-share-requires c κs = search needs
 
--- src/settlement.rt:104:18
 primary-share-requires : tie.Need-primary-share-requires
 primary-share-requires c κs = search needs
 
--- src/settlement.rt:105:20
 remainder-after-requires : tie.Need-remainder-after-requires
 remainder-after-requires c κs = search needs
 
--- src/settlement.rt:95:1
 returns : tie.Need-returns
-returns c = ?
+returns c = λ i. record { secondary = c .before .before .secondary-share .ensures i; primary = c .before .primary-share .ensures i; remainder = c .remainder-after .ensures i }
 
 pub shares-of-spec : {M : Type 1} → statement M
 shares-of-spec =

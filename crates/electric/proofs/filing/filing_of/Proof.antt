@@ -1,9 +1,9 @@
 use Rattle.ints.specs.Bound.{bounds, fits64}
 use borrow.Author.Needs.{needs}
-use Rattle.electric.proofs.filing.file.Statement.{statement}
-use Rattle.electric.proofs.filing.file.Tie as tie
-use Rattle.electric.proofs.filing.file.Reads as reads
-use Rattle.electric.proofs.filing.file.Lts as lts
+use Rattle.electric.proofs.filing.filing_of.Statement.{statement}
+use Rattle.electric.proofs.filing.filing_of.Tie as tie
+use Rattle.electric.proofs.filing.filing_of.Reads as reads
+use Rattle.electric.proofs.filing.filing_of.Lts as lts
 use Rattle.rounding.proofs.round_div.Reads as round-div-reads
 
 add-owed : tie.Need-add-owed
@@ -21,5 +21,5 @@ round-div-requires c κs = search needs
 returns : tie.Need-returns
 returns c = ?
 
-pub file-spec : {M : Type 1} → statement M
-file-spec = tie.close (tie.spec add-owed add-owed-2 mul-round-div round-div-requires returns)
+pub filing-of-spec : {M : Type 1} → statement M
+filing-of-spec = tie.close (tie.spec add-owed add-owed-2 mul-round-div round-div-requires returns)

@@ -1,0 +1,53 @@
+-- What the rows before the next book have shown where none of them holds: the ranges of the book and of the posting's numbers, and that the
+-- next book decides. Assumes nothing.
+use mathlib.Core.Path.{_≡_, refl, sym, _∙_}
+use mathlib.Core.Bool.{Bool, true, false, true≢false}
+use Prim.Native.Nat.{ℕ, _<_}
+use native.Mathlib.Omega.{arith}
+use borrow.Author.Tests.{not-false}
+use Rattle.refusals.specs.Rows.{refusalBy}
+use Rattle.refusals.specs.Laws.{NoneHolds, none-holds, gives-earlier, gives-later}
+use Rattle.postings.specs.Kinds.{Kind, kindOf, tableOf, isNone, unknownKind, by-kind}
+use Rattle.postings.specs.Held.{Held, in-range-held}
+use Rattle.postings.specs.declared.Book.the-variants.{Electric}
+use Rattle.postings.specs.declared.Posting.{Posting}
+use Rattle.electric_rules.specs.declared.ElectricBook.{ElectricBook}
+use Rattle.electric_rules.specs.Book.{posted, refused}
+use Rattle.electric_rules.specs.Next.{nextOf, answerOf}
+use Rattle.electric_rules.specs.Ranges.{BookWithin, book-within}
+use Rattle.electric_rules.specs.Refusals.{rowsBefore, rowsAfter, postOf}
+use Rattle.electric.specs.Stored.{storedOr12, postedAt}
+
+module _ (b : ElectricBook) (p : Posting) {n : ℕ} (e : n ≡ refusalBy (rowsBefore b p)) where
+  -- a row before the next book refuses
+  pub refused-is : (n ≡ 0 → ⊥) → refused b n ≡ postOf b p
+  unfolding postOf
+  refused-is h =
+      let l : 0 < n = omega arith in
+      sym (gives-earlier (rowsBefore b p) (posted (answerOf b p) (nextOf b p)) (refused b) (rowsAfter (nextOf b p)) tt n l (sym e))
+
+  -- none does
+  module _ (z : n ≡ 0) where
+    none : NoneHolds (rowsBefore b p)
+    none = none-holds (rowsBefore b p) tt (sym e ∙ z)
+
+    pub known : unknownKind Electric (p .kind) ≡ false
+    known = none .0
+
+    pub book-ready : BookWithin b
+    book-ready = book-within b (not-false _ (none .1 .1 .0))
+
+    pub posting-ready : Held Electric (kindOf (p .kind)) p
+    posting-ready = in-range-held Electric p (none .1 .1 .1 .0)
+
+    pub posted-is : postedAt (kindOf (p .kind)) b p ≡ postOf b p
+    unfolding postOf storedOr12
+    posted-is = sym (gives-later (rowsBefore b p) (posted (answerOf b p) (nextOf b p)) (refused b) (rowsAfter (nextOf b p)) tt (sym e ∙ z))
+
+-- of the kinds that the book has, 6 is what 1 to 5 leave
+pub is-adjustment : (n : ℕ) → unknownKind Electric n ≡ false → (n ≡ 1 → ⊥) → (n ≡ 2 → ⊥) → (n ≡ 3 → ⊥) → (n ≡ 4 → ⊥) → (n ≡ 5 → ⊥) → n ≡ 6
+unfolding unknownKind
+is-adjustment =
+    by-kind (λ n kind. isNone (tableOf Electric kind) ≡ false → (n ≡ 1 → ⊥) → (n ≡ 2 → ⊥) → (n ≡ 3 → ⊥) → (n ≡ 4 → ⊥) → (n ≡ 5 → ⊥) → n ≡ 6)
+    (λ k a b c d e. absurd (a refl)) (λ k a b c d e. absurd (b refl)) (λ k a b c d e. absurd (c refl)) (λ k a b c d e. absurd (d refl)) (λ k a b c d e. absurd (e refl)) (λ k a b c d e. refl)
+    (λ k a b c d e. absurd (true≢false k)) (λ n k a b c d e. absurd (true≢false k))
