@@ -1,5 +1,6 @@
 -- A part of the book is the same where the amounts are that a step makes anew. Assumes nothing.
-use mathlib.Core.Path.{_≡_, sym, _∙_, ap}
+use mathlib.Core.Path.{_≡_, sym, _∙_, subst}
+use mathlib.Core.Bool.{Bool, true, false, cond}
 use Prim.Native.Nat.{ℕ}
 use lib.IntN.{ℤ, _+ℤ_}
 use borrow.Author.Tests.{ne-eqb}
@@ -8,11 +9,17 @@ use Rattle.amounts.specs.declared.Points.{Points}
 use Rattle.electric_rules.specs.declared.Run.{Run}
 use Rattle.electric_rules.specs.declared.Level.{Level}
 use Rattle.electric_rules.specs.declared.Period.{Period}
+use Rattle.electric_rules.specs.declared.ElectricBook.{ElectricBook}
 use Rattle.electric_rules.specs.Book.{remainder, salesOf, noRun}
 use Rattle.electric_rules.specs.Levels.{handedOver}
+use Rattle.electric_rules.specs.Next.{isSecondary, levelAt}
+use Rattle.electric_rules.specs.Ranges.{LevelWithin, BookWithin}
 
 pub same-cents : {a b : ℤ} → a ≡ b → cents a ≡ cents b
 same-cents e = λ i. cents (e i)
+
+pub same-points : {a b : ℤ} → a ≡ b → points a ≡ points b
+same-points e = λ i. points (e i)
 
 pub same-remainder : {a b : ℤ} → a ≡ b → remainder a ≡ remainder b
 same-remainder e = λ i. remainder (e i)
@@ -51,3 +58,12 @@ module _ (n : ℕ) (l : Level) {a : ℤ} {none : Run} where
 pub enters-neither : (n : ℕ) (l : Level) → (n ≡ 1 → ⊥) → (n ≡ 2 → ⊥) → l ≡ handedOver n l
 unfolding handedOver
 enters-neither n l f g = sym (simp (ne-eqb n 1 f, ne-eqb n 2 g))
+
+-- ---- the level that a posting names
+
+pub level-at-within : (b : ElectricBook) (z : ℤ) {l : Level} → BookWithin b → l ≡ levelAt z b → LevelWithin l
+level-at-within b z w e = subst (λ (m : Level). LevelWithin m) (sym e) (go (isSecondary z))
+  where
+    go : (t : Bool) → LevelWithin (cond t (b .secondary) (b .primary))
+    go true = w .secondary
+    go false = w .primary

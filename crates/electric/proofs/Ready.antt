@@ -1,13 +1,13 @@
 -- What the rows before the next book have shown where none of them holds: the ranges of the book and of the posting's numbers, and that the
 -- next book decides. Assumes nothing.
 use mathlib.Core.Path.{_≡_, refl, sym, _∙_}
-use mathlib.Core.Bool.{Bool, true, false, true≢false}
+use mathlib.Core.Bool.{false, true≢false}
 use Prim.Native.Nat.{ℕ, _<_}
 use native.Mathlib.Omega.{arith}
 use borrow.Author.Tests.{not-false}
 use Rattle.refusals.specs.Rows.{refusalBy}
 use Rattle.refusals.specs.Laws.{NoneHolds, none-holds, gives-earlier, gives-later}
-use Rattle.postings.specs.Kinds.{Kind, kindOf, tableOf, isNone, unknownKind, by-kind}
+use Rattle.postings.specs.Kinds.{kindOf, tableOf, isNone, unknownKind, by-kind}
 use Rattle.postings.specs.Held.{Held, in-range-held}
 use Rattle.postings.specs.declared.Book.the-variants.{Electric}
 use Rattle.postings.specs.declared.Posting.{Posting}

@@ -1,6 +1,6 @@
 -- A settlement's filings make the settled book and its answer, and a factor that cannot be stored makes none. Assumes nothing.
 use mathlib.Core.Path.{_≡_, refl, sym, _∙_, ap}
-use mathlib.Core.List.{[], _∷_}
+use mathlib.Core.List.{[]}
 use mathlib.Core.Bool.{Bool, true, false, not, _&&_}
 use native.Mathlib.Omega.{arith}
 use lib.IntN.{ℤ}
@@ -17,7 +17,6 @@ use Rattle.electric_rules.specs.Levels.{settledLevel}
 use Rattle.electric_rules.specs.Limits.{runInLimits, levelInLimits, inLimits}
 use Rattle.electric_rules.specs.Next.{settlePosted, filedAnswer, nextAt, answerAt}
 use Rattle.electric_rules.specs.Refusals.{rowsAfter}
-use Rattle.electric.specs.declared.filing.Filing.{Filing}
 use Rattle.electric.specs.declared.filing.Filings.{Filings}
 use Rattle.electric.specs.Filings.{filing, filingsOf, settledBy, answerBy}
 use Rattle.electric.specs.Stored.{storedOr12, postedAt}

@@ -1,12 +1,11 @@
 -- The electric book (01, Electric book): amounts put together, the fresh book and the opening.
-use mathlib.Core.Bool.{Bool, true, false}
-use mathlib.Core.List.{List, [], _∷_}
+use mathlib.Core.Bool.{false}
+use mathlib.Core.List.{[], _∷_}
 use Prim.Native.Nat.{ℕ}
 use lib.Dec.{ltb}
 use lib.IntN.{ℤ, pos}
-use Rattle.refusals.specs.Rows.{Row, row, byTable}
+use Rattle.refusals.specs.Rows.{row, byTable}
 use Rattle.amounts.specs.Amounts.{cents, points}
-use Rattle.amounts.specs.declared.Cents.{Cents}
 use Rattle.postings.specs.declared.Answer.{Answer}
 use Rattle.postings.specs.declared.Answer.the-variants.{Done, Refused}
 use Rattle.electric_rules.specs.declared.Kwh.{Kwh}

@@ -1,9 +1,8 @@
 -- What an electric book may store (01, Posting records, the last line; Refusals, 6): one definition for the book that a posting finds and
 -- for the one that it would leave.
 use mathlib.Core.Bool.{Bool, not, _&&_, _||_}
-use Prim.Native.Nat.{ℕ}
 use lib.Dec.{leb}
-use lib.IntN.{ℤ, pos, negℤ}
+use lib.IntN.{pos, negℤ}
 use Rattle.ints.specs.Range.{inRange}
 use Rattle.amounts.specs.Amounts.{centsInLimits, pointsInLimits}
 use Rattle.electric_rules.specs.declared.Kwh.{Kwh}

@@ -1,6 +1,6 @@
 -- A bill's line over the factors of its runs, and each run's part of it (01, Electric book and Steam book, Bill): one definition for any
 -- number of runs. Law: the parts make the line. Assumes nothing.
-use mathlib.Core.Path.{_≡_, refl, sym, ap, _∙_}
+use mathlib.Core.Path.{_≡_, refl, ap, _∙_}
 use mathlib.Core.List.{List, [], _∷_}
 use Prim.Native.Nat.{ℕ, zero, suc}
 use lib.IntN.{ℤ, pos, _+ℤ_, _-ℤ_, _*ℤ_}

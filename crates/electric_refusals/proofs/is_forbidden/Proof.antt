@@ -2,15 +2,12 @@
 use mathlib.Core.Path.{_≡_, refl, sym, ap, _∙_}
 use mathlib.Core.Bool.{Bool, false, not, _&&_, _||_}
 use Prim.Native.Nat.{ℕ}
+use borrow.Author.Needs.{needs}
 use Rattle.postings.specs.Kinds.{kindOf, by-kind}
 use Rattle.electric_rules.specs.Refusals.{forbidden}
 use Rattle.electric_rules.specs.declared.ElectricBook.{ElectricBook}
-use borrow.Author.Needs.{needs}
 use Rattle.electric_refusals.proofs.is_forbidden.Statement.{statement}
 use Rattle.electric_refusals.proofs.is_forbidden.Tie as tie
-use Rattle.electric_refusals.proofs.is_forbidden.Reads as reads
-use Rattle.electric_refusals.proofs.is_forbidden.Lts as lts
-use Rattle.electric_refusals.proofs.calendar.settles.Reads as settles-reads
 
 -- no month forbids any other kind
 never-forbidden : (b : ElectricBook) (n : ℕ) → (n ≡ 1 → ⊥) → (n ≡ 2 → ⊥) → (n ≡ 4 → ⊥) → (n ≡ 5 → ⊥) → false ≡ forbidden (kindOf n) b

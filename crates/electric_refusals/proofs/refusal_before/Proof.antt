@@ -2,22 +2,14 @@
 use mathlib.Core.Path.{_≡_, sym, _∙_}
 use mathlib.Core.Bool.{true, false}
 use borrow.Author.Tests.{not-false}
+use borrow.Author.Needs.{needs}
 use Rattle.refusals.specs.Rows.{refusalBy}
 use Rattle.postings.specs.Kinds.{kindOf, unknownKind, strayNumber, outOfRange}
 use Rattle.postings.specs.declared.Book.the-variants.{Electric}
 use Rattle.electric_rules.specs.Limits.{inLimits}
 use Rattle.electric_rules.specs.Refusals.{forbidden}
-use borrow.Author.Needs.{needs}
 use Rattle.electric_refusals.proofs.refusal_before.Statement.{statement}
 use Rattle.electric_refusals.proofs.refusal_before.Tie as tie
-use Rattle.electric_refusals.proofs.refusal_before.Reads as reads
-use Rattle.electric_refusals.proofs.refusal_before.Lts as lts
-use Rattle.electric_refusals.proofs.is_forbidden.Reads as is-forbidden-reads
-use Rattle.electric_refusals.proofs.limits.in_limits.Reads as in-limits-reads
-use Rattle.electric_refusals.proofs.sold_nothing.Reads as sold-nothing-reads
-use Rattle.postings.proofs.out_of_range.Reads as out-of-range-reads
-use Rattle.postings.proofs.stray_number.Reads as stray-number-reads
-use Rattle.postings.proofs.unknown_kind.Reads as unknown-kind-reads
 
 -- what each test has left, over the place in the code where it is known
 

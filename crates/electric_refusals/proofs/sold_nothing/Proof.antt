@@ -12,11 +12,8 @@ use Rattle.postings.specs.Kinds.{kindOf, by-kind}
 use Rattle.electric_rules.specs.Ranges.{book-within}
 use Rattle.electric_rules.specs.Refusals.{nothingSold}
 use Rattle.electric_rules.specs.declared.ElectricBook.{ElectricBook}
-use borrow.Author.Needs.{needs}
 use Rattle.electric_refusals.proofs.sold_nothing.Statement.{statement}
 use Rattle.electric_refusals.proofs.sold_nothing.Tie as tie
-use Rattle.electric_refusals.proofs.sold_nothing.Reads as reads
-use Rattle.electric_refusals.proofs.sold_nothing.Lts as lts
 
 -- no other kind is asked for sales
 never-asked : (b : ElectricBook) (n : ℕ) → (n ≡ 4 → ⊥) → false ≡ nothingSold (kindOf n) b

@@ -1,32 +1,33 @@
+-- `effects::post_adjustment` stores the book with the level that it names adjusted. Assumes nothing.
+use mathlib.Core.Path.{ap, _∙_}
 use borrow.Author.Needs.{needs}
+use Rattle.postings.specs.declared.Answer.the-variants.{Done}
+use Rattle.electric_rules.specs.declared.ElectricBook.{ElectricBook}
+use Rattle.electric_rules.specs.Levels.{adjustedLevel}
+use Rattle.electric_rules.specs.Next.{withLevelAt, adjustPosted, nextAt, answerAt}
+use Rattle.electric.proofs.Parts.{level-at-within}
 use Rattle.electric.proofs.effects.post_adjustment.Statement.{statement}
+use Rattle.electric.specs.Stored.{storedOr12}
 use Rattle.electric.proofs.effects.post_adjustment.Tie as tie
-use Rattle.electric.proofs.effects.post_adjustment.Reads as reads
-use Rattle.electric.proofs.effects.post_adjustment.Lts as lts
-use Rattle.electric.proofs.effects.store.Reads as store-reads
-use Rattle.electric.proofs.levels.adjusted.Reads as adjusted-reads
-use Rattle.electric.proofs.levels.level_at.Reads as level-at-reads
-use Rattle.electric.proofs.levels.with_level_at.Reads as with-level-at-reads
 
--- src/effects.rt:94:9
 level-at-requires : tie.Need-level-at-requires
 level-at-requires c κs = search needs
 
--- src/effects.rt:95:9
 adjusted-requires : tie.Need-adjusted-requires
-adjusted-requires c κs = ?
+adjusted-requires c κs = (level-at-within (c .before .args .book) (c .before .args .posting .first) (c .before .pre .0) (c .level-at .ensures), c .before .pre .1)
 
--- src/effects.rt:96:9
 with-level-at-requires : tie.Need-with-level-at-requires
 with-level-at-requires c κs = search needs
 
--- src/effects.rt:97:5
 store-requires : tie.Need-store-requires
 store-requires c κs = search needs
 
--- src/effects.rt:90:1
 returns : tie.Need-returns
-returns c = ?
+unfolding nextAt answerAt adjustPosted
+returns c = let b = c .before .before .before .before .args .book in
+    let p = c .before .before .before .before .args .posting in
+    let next = c .before .with-level-at .ensures ∙ ap (withLevelAt (p .first) b) (c .before .before .adjusted .ensures ∙ ap (adjustedLevel (p .second)) (c .before .before .before .level-at .ensures)) in
+    c .store .ensures ∙ ap (λ (n : ElectricBook). storedOr12 b n Done) next
 
 pub post-adjustment-spec : {M : Type 1} → statement M
 post-adjustment-spec =

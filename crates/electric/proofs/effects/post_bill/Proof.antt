@@ -1,37 +1,39 @@
+-- `effects::post_bill` stores the book with the bill taken from the level that it names, and answers its line. Assumes nothing.
+use mathlib.Core.Path.{ap, _∙_}
 use borrow.Author.Needs.{needs}
+use Rattle.amounts.specs.Amounts.{cents}
+use Rattle.postings.specs.declared.Answer.the-variants.{Line}
+use Rattle.electric_rules.specs.declared.Level.{Level}
+use Rattle.electric_rules.specs.Levels.{levelLine, billedLevel}
+use Rattle.electric_rules.specs.Next.{withLevelAt, billPosted, nextAt, lineAnswer, answerAt}
+use Rattle.electric.proofs.Parts.{level-at-within}
 use Rattle.electric.proofs.effects.post_bill.Statement.{statement}
+use Rattle.electric.specs.Stored.{storedOr12}
 use Rattle.electric.proofs.effects.post_bill.Tie as tie
-use Rattle.electric.proofs.effects.post_bill.Reads as reads
-use Rattle.electric.proofs.effects.post_bill.Lts as lts
-use Rattle.electric.proofs.effects.store.Reads as store-reads
-use Rattle.electric.proofs.levels.billed.Reads as billed-reads
-use Rattle.electric.proofs.levels.level_at.Reads as level-at-reads
-use Rattle.electric.proofs.levels.line.Reads as line-reads
-use Rattle.electric.proofs.levels.with_level_at.Reads as with-level-at-reads
 
--- src/effects.rt:83:9
 level-at-requires : tie.Need-level-at-requires
 level-at-requires c κs = search needs
 
--- src/effects.rt:84:9
 line-requires : tie.Need-line-requires
-line-requires c κs = ?
+line-requires c κs = (level-at-within (c .before .args .book) (c .before .args .posting .first) (c .before .pre .0) (c .level-at .ensures), c .before .pre .1)
 
--- src/effects.rt:85:9
 billed-requires : tie.Need-billed-requires
-billed-requires c κs = ?
+billed-requires c κs = (level-at-within (c .before .before .args .book) (c .before .before .args .posting .first) (c .before .before .pre .0) (c .before .level-at .ensures), c .before .before .pre .1, c .line .ensures)
 
--- src/effects.rt:86:9
 with-level-at-requires : tie.Need-with-level-at-requires
 with-level-at-requires c κs = search needs
 
--- src/effects.rt:87:5
 store-requires : tie.Need-store-requires
 store-requires c κs = search needs
 
--- src/effects.rt:79:1
 returns : tie.Need-returns
-returns c = ?
+unfolding nextAt answerAt billPosted lineAnswer
+returns c = let b = c .before .before .before .before .before .args .book in
+    let p = c .before .before .before .before .before .args .posting in
+    let at = c .before .before .before .before .level-at .ensures in
+    let line = c .before .before .before .line .ensures ∙ ap (λ (l : Level). cents (levelLine (p .second) l)) at in
+    let next = c .before .with-level-at .ensures ∙ ap (withLevelAt (p .first) b) (c .before .before .billed .ensures ∙ ap (billedLevel (p .second)) at) in
+    c .store .ensures ∙ (λ i. storedOr12 b (next i) (Line (line i)))
 
 pub post-bill-spec : {M : Type 1} → statement M
 post-bill-spec =

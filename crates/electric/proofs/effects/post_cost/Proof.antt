@@ -1,22 +1,23 @@
+-- `effects::post_cost` stores the book with the cost added to its period. Assumes nothing.
+use mathlib.Core.Path.{ap, _∙_}
 use borrow.Author.Needs.{needs}
+use Rattle.postings.specs.declared.Answer.the-variants.{Done}
+use Rattle.electric_rules.specs.declared.Period.{Period}
+use Rattle.electric_rules.specs.Next.{withPeriod, costPosted, nextAt, answerAt}
 use Rattle.electric.proofs.effects.post_cost.Statement.{statement}
+use Rattle.electric.specs.Stored.{storedOr12}
 use Rattle.electric.proofs.effects.post_cost.Tie as tie
-use Rattle.electric.proofs.effects.post_cost.Reads as reads
-use Rattle.electric.proofs.effects.post_cost.Lts as lts
-use Rattle.electric.proofs.effects.cost_added.Reads as cost-added-reads
-use Rattle.electric.proofs.effects.store.Reads as store-reads
 
--- src/effects.rt:53:5
 cost-added-requires : tie.Need-cost-added-requires
 cost-added-requires c κs = search needs
 
--- src/effects.rt:54:5
 store-requires : tie.Need-store-requires
 store-requires c κs = search needs
 
--- src/effects.rt:48:1
 returns : tie.Need-returns
-returns c = ?
+unfolding nextAt answerAt costPosted
+returns c = let b = c .before .before .args .book in
+    c .store .ensures ∙ ap (λ (q : Period). storedOr12 b (withPeriod b q) Done) (c .before .cost-added .ensures)
 
 pub post-cost-spec : {M : Type 1} → statement M
 post-cost-spec = tie.close (tie.spec cost-added-requires store-requires returns)

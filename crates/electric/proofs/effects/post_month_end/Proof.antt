@@ -1,45 +1,44 @@
+-- `effects::post_month_end` stores the book at the month's end, and answers the month's interest. Assumes nothing.
+use mathlib.Core.Path.{ap, _∙_}
+use Prim.Native.Nat.{ℕ}
 use borrow.Author.Needs.{needs}
+use Rattle.postings.specs.declared.Answer.the-variants.{Interest}
+use Rattle.electric_rules.specs.Levels.{accruedLevel, handedOver}
+use Rattle.electric_rules.specs.Next.{endedWith, monthEnded, nextAt, interestAnswer, answerAt}
 use Rattle.electric.proofs.effects.post_month_end.Statement.{statement}
+use Rattle.electric.specs.Stored.{storedOr12}
 use Rattle.electric.proofs.effects.post_month_end.Tie as tie
-use Rattle.electric.proofs.effects.post_month_end.Reads as reads
-use Rattle.electric.proofs.effects.post_month_end.Lts as lts
-use Rattle.electric.proofs.effects.store.Reads as store-reads
-use Rattle.electric.proofs.levels.ended.Reads as ended-reads
-use Rattle.electric.proofs.levels.interest.Reads as interest-reads
-use Rattle.electric_refusals.proofs.calendar.entering.Reads as entering-reads
-use Rattle.electric_refusals.proofs.calendar.month_after.Reads as month-after-reads
 
--- src/effects.rt:105:9
 interest-requires : tie.Need-interest-requires
 interest-requires c κs = search needs
 
--- src/effects.rt:106:9
 interest-requires-2 : tie.Need-interest-requires-2
 interest-requires-2 c κs = search needs
 
--- src/effects.rt:107:9
 entering-requires : tie.Need-entering-requires
 entering-requires c κs = search needs
 
--- src/effects.rt:109:5
 month-after-requires : tie.Need-month-after-requires
 month-after-requires c κs = search needs
 
--- src/effects.rt:111:5
 ended-requires : tie.Need-ended-requires
 ended-requires c κs = search needs
 
--- src/effects.rt:112:5
 ended-requires-2 : tie.Need-ended-requires-2
 ended-requires-2 c κs = search needs
 
--- src/effects.rt:113:5
 store-requires : tie.Need-store-requires
 store-requires c κs = search needs
 
--- src/effects.rt:101:1
 returns : tie.Need-returns
-returns c = ?
+unfolding nextAt answerAt monthEnded interestAnswer
+returns c = let b = c .before .before .before .before .before .before .before .args .book in
+    let r = c .before .before .before .before .before .before .before .args .posting .first in
+    let run = c .before .before .before .before .entering .ensures in
+    let secondary = c .before .before .ended .ensures ∙ ap (λ (n : ℕ). handedOver n (accruedLevel r (b .secondary))) run in
+    let primary = c .before .ended2 .ensures ∙ ap (λ (n : ℕ). handedOver n (accruedLevel r (b .primary))) run in
+    c .store .ensures
+    ∙ (λ i. storedOr12 b (endedWith b (c .before .before .before .month-after .ensures i) (secondary i) (primary i)) (Interest (c .before .before .before .before .before .before .interest .ensures i) (c .before .before .before .before .before .interest2 .ensures i)))
 
 pub post-month-end-spec : {M : Type 1} → statement M
 post-month-end-spec =

@@ -1,22 +1,23 @@
+-- `effects::post_sales` stores the book with the sales added to its period. Assumes nothing.
+use mathlib.Core.Path.{ap, _∙_}
 use borrow.Author.Needs.{needs}
+use Rattle.postings.specs.declared.Answer.the-variants.{Done}
+use Rattle.electric_rules.specs.declared.Period.{Period}
+use Rattle.electric_rules.specs.Next.{withPeriod, salesPosted, nextAt, answerAt}
 use Rattle.electric.proofs.effects.post_sales.Statement.{statement}
+use Rattle.electric.specs.Stored.{storedOr12}
 use Rattle.electric.proofs.effects.post_sales.Tie as tie
-use Rattle.electric.proofs.effects.post_sales.Reads as reads
-use Rattle.electric.proofs.effects.post_sales.Lts as lts
-use Rattle.electric.proofs.effects.sales_added.Reads as sales-added-reads
-use Rattle.electric.proofs.effects.store.Reads as store-reads
 
--- src/effects.rt:75:5
 sales-added-requires : tie.Need-sales-added-requires
 sales-added-requires c κs = search needs
 
--- src/effects.rt:76:5
 store-requires : tie.Need-store-requires
 store-requires c κs = search needs
 
--- src/effects.rt:70:1
 returns : tie.Need-returns
-returns c = ?
+unfolding nextAt answerAt salesPosted
+returns c = let b = c .before .before .args .book in
+    c .store .ensures ∙ ap (λ (q : Period). storedOr12 b (withPeriod b q) Done) (c .before .sales-added .ensures)
 
 pub post-sales-spec : {M : Type 1} → statement M
 post-sales-spec = tie.close (tie.spec sales-added-requires store-requires returns)

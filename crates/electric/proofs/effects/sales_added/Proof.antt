@@ -1,11 +1,9 @@
 -- `effects::sales_added` adds the sales to the period. Assumes nothing.
 use Rattle.ints.specs.Exact.{exacts, exact}
-use Rattle.electric.proofs.Parts.{same-sales}
 use Rattle.ints.specs.Bound.{bounds, fits64}
+use Rattle.electric.proofs.Parts.{same-sales}
 use Rattle.electric.proofs.effects.sales_added.Statement.{statement}
 use Rattle.electric.proofs.effects.sales_added.Tie as tie
-use Rattle.electric.proofs.effects.sales_added.Reads as reads
-use Rattle.electric.proofs.effects.sales_added.Lts as lts
 
 add-t5 : tie.Need-add-t5
 add-t5 c = fits64 (search bounds depth 30) tt

@@ -1,26 +1,28 @@
+-- `effects::store` is the last row of the table: the next book, or 12. Assumes nothing.
+use mathlib.Core.Path.{sym, ap, _∙_}
+use mathlib.Core.Bool.{not}
+use mathlib.Core.List.{[]}
+use native.Mathlib.Omega.{arith}
 use borrow.Author.Needs.{needs}
+use Rattle.refusals.specs.Laws.{at-row, accepted, gives-asked, gives-refusal}
+use Rattle.electric_rules.specs.Refusals.{rowsAfter}
 use Rattle.electric.proofs.effects.store.Statement.{statement}
+use Rattle.electric.specs.Stored.{storedOr12}
 use Rattle.electric.proofs.effects.store.Tie as tie
-use Rattle.electric.proofs.effects.store.Reads as reads
-use Rattle.electric.proofs.effects.store.Lts as lts
-use Rattle.electric.proofs.effects.refuse.Reads as refuse-reads
-use Rattle.electric_refusals.proofs.limits.in_limits.Reads as in-limits-reads
 
--- src/effects.rt:32:8
 in-limits-requires : tie.Need-in-limits-requires
 in-limits-requires c κs = search needs
 
--- src/effects.rt:33:9
 returns : tie.Need-returns
-returns c = ?
+unfolding storedOr12
+returns c = sym (gives-asked (rowsAfter _) _ _ (accepted (rowsAfter _) (ap not (sym (c .before .in-limits .ensures) ∙ c .if1 .taken), tt)))
 
--- src/effects.rt:35:5
 refuse-requires : tie.Need-refuse-requires
 refuse-requires c κs = search needs
 
--- src/effects.rt:29:1
 returns-2 : tie.Need-returns-2
-returns-2 c = ?
+unfolding storedOr12
+returns-2 c = c .refuse .ensures ∙ sym (gives-refusal (rowsAfter _) _ _ 12 (omega arith) (at-row 12 [] (ap not (sym (c .before .before .in-limits .ensures) ∙ c .before .if1 .left))))
 
 pub store-spec : {M : Type 1} → statement M
 store-spec = tie.close (tie.spec in-limits-requires returns refuse-requires returns-2)

@@ -1,10 +1,12 @@
-use Rattle.ints.specs.Bound.{bounds, fits64}
+-- `filing::filing_of` is what the level owes, and the factor for it. Assumes nothing.
 use borrow.Author.Needs.{needs}
+use Rattle.ints.specs.Exact.{exacts, e-eq, exact}
+use Rattle.rounding.specs.Laws.{rounds-any}
+use Rattle.electric_rules.specs.Levels.{owedBy, factorFor}
+use Rattle.ints.specs.Bound.{bounds, fits64}
+use Rattle.electric.proofs.Settling.{same-filing}
 use Rattle.electric.proofs.filing.filing_of.Statement.{statement}
 use Rattle.electric.proofs.filing.filing_of.Tie as tie
-use Rattle.electric.proofs.filing.filing_of.Reads as reads
-use Rattle.electric.proofs.filing.filing_of.Lts as lts
-use Rattle.rounding.proofs.round_div.Reads as round-div-reads
 
 add-owed : tie.Need-add-owed
 add-owed c = fits64 (search bounds depth 30) tt
@@ -19,7 +21,8 @@ round-div-requires : tie.Need-round-div-requires
 round-div-requires c κs = search needs
 
 returns : tie.Need-returns
-returns c = ?
+unfolding owedBy factorFor
+returns c = same-filing (exact (search exacts depth 30) tt) (exact (search (exacts, rounds-any, e-eq) depth 30) tt)
 
 pub filing-of-spec : {M : Type 1} → statement M
 filing-of-spec = tie.close (tie.spec add-owed add-owed-2 mul-round-div round-div-requires returns)

@@ -1,25 +1,29 @@
+-- `filing::is_factor` tests the limits of stored factors. Assumes nothing.
+use mathlib.Core.Path.{ap, _∙_}
+use lib.IntN.{pos, negℤ}
+use mir.Syntax.{w64}
+use mir.Val.{SFits}
+use mir.Facts.{toZ-ofZ}
 use borrow.Author.Needs.{needs}
+use Rattle.ints.specs.Range.{inRange}
+use Rattle.amounts.specs.Amounts.{pointsInLimits}
 use Rattle.electric.proofs.filing.is_factor.Statement.{statement}
 use Rattle.electric.proofs.filing.is_factor.Tie as tie
-use Rattle.electric.proofs.filing.is_factor.Reads as reads
-use Rattle.electric.proofs.filing.is_factor.Lts as lts
-use Rattle.ints.proofs.in_range.Reads as in-range-reads
 
--- src/filing.rt:71:32
 cast-in-range : tie.Need-cast-in-range
 cast-in-range c = search needs
 
--- src/filing.rt:71:54
 cast-in-range-2 : tie.Need-cast-in-range-2
 cast-in-range-2 c = search needs
 
--- src/filing.rt:71:5
 in-range-requires : tie.Need-in-range-requires
 in-range-requires c κs = search needs
 
--- src/filing.rt:68:1
 returns : tie.Need-returns
-returns c = ?
+unfolding pointsInLimits
+returns c = let q = c .before .before .args .quotient in
+    let f : SFits w64 (q .0) = search needs in
+    c .in-range .ensures ∙ ap (inRange (negℤ (pos 99999)) (pos 99999)) (toZ-ofZ f)
 
 pub is-factor-spec : {M : Type 1} → statement M
 is-factor-spec = tie.close (tie.spec cast-in-range cast-in-range-2 in-range-requires returns)

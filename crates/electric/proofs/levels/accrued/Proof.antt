@@ -5,14 +5,12 @@ use mir.Syntax.{w64}
 use mir.Val.{toZ, ofZ}
 use Rattle.ints.specs.Exact.{exacts, exact}
 use Rattle.ints.specs.Range.{Within, between-same}
-use Rattle.electric.proofs.Parts.{same-interest}
-use Rattle.electric.proofs.Bills.{interest-within}
 use Rattle.electric_rules.specs.Levels.{accruedLevel}
 use Rattle.ints.specs.Bound.{bounds, fits64}
+use Rattle.electric.proofs.Parts.{same-interest}
+use Rattle.electric.proofs.Bills.{interest-within}
 use Rattle.electric.proofs.levels.accrued.Statement.{statement}
 use Rattle.electric.proofs.levels.accrued.Tie as tie
-use Rattle.electric.proofs.levels.accrued.Reads as reads
-use Rattle.electric.proofs.levels.accrued.Lts as lts
 
 add-t6 : tie.Need-add-t6
 add-t6 c = let s = c .before .before .before .before .args in

@@ -1,16 +1,11 @@
 -- `levels::billed` is the billed level: each run's due cents fall by its part. Assumes nothing.
 use mathlib.Core.Path.{_∙_}
+use borrow.Author.Needs.{needs}
 use Rattle.ints.specs.Range.{between-same}
 use Rattle.electric_rules.specs.Levels.{dueLess, billedLevel}
 use Rattle.electric.proofs.Bills.{first-within, second-within}
-use borrow.Author.Needs.{needs}
 use Rattle.electric.proofs.levels.billed.Statement.{statement}
 use Rattle.electric.proofs.levels.billed.Tie as tie
-use Rattle.electric.proofs.levels.billed.Reads as reads
-use Rattle.electric.proofs.levels.billed.Lts as lts
-use Rattle.electric.proofs.levels.due_less.Reads as due-less-reads
-use Rattle.electric.proofs.levels.first_part.Reads as first-part-reads
-use Rattle.electric.proofs.levels.second_part.Reads as second-part-reads
 
 first-part-requires : tie.Need-first-part-requires
 first-part-requires c κs = search needs

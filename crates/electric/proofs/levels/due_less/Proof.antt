@@ -1,11 +1,9 @@
 -- `levels::due_less` takes the part from the due cents. Assumes nothing.
 use Rattle.ints.specs.Exact.{exacts, exact}
-use Rattle.electric.proofs.Parts.{same-due}
 use Rattle.ints.specs.Bound.{bounds, fits64}
+use Rattle.electric.proofs.Parts.{same-due}
 use Rattle.electric.proofs.levels.due_less.Statement.{statement}
 use Rattle.electric.proofs.levels.due_less.Tie as tie
-use Rattle.electric.proofs.levels.due_less.Reads as reads
-use Rattle.electric.proofs.levels.due_less.Lts as lts
 
 sub-t5 : tie.Need-sub-t5
 sub-t5 c = fits64 (search bounds depth 30) tt

@@ -1,16 +1,12 @@
 -- `levels::ended` is the level at a month's end: interest, then the handover. Assumes nothing.
 use mathlib.Core.Path.{sym, ap, _∙_, subst}
+use borrow.Author.Needs.{needs}
 use Rattle.ints.specs.Range.{Within}
 use Rattle.electric_rules.specs.Levels.{accruedLevel, handedOver}
 use Rattle.electric_rules.specs.Ranges.{RunWithin}
 use Rattle.electric_rules.specs.declared.Level.{Level}
-use borrow.Author.Needs.{needs}
 use Rattle.electric.proofs.levels.ended.Statement.{statement}
 use Rattle.electric.proofs.levels.ended.Tie as tie
-use Rattle.electric.proofs.levels.ended.Reads as reads
-use Rattle.electric.proofs.levels.ended.Lts as lts
-use Rattle.electric.proofs.levels.accrued.Reads as accrued-reads
-use Rattle.electric.proofs.levels.handed_over.Reads as handed-over-reads
 
 accrued-requires : tie.Need-accrued-requires
 accrued-requires c κs = search needs

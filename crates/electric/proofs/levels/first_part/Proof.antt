@@ -3,18 +3,15 @@ use mathlib.Core.Path.{_≡_, _∙_}
 use lib.IntN.{pos, _*ℤ_}
 use mir.Syntax.{w64}
 use mir.Val.{toZ, ofZ}
+use borrow.Author.Needs.{needs}
 use Rattle.rounding.specs.Round.{round}
 use Rattle.ints.specs.Exact.{exacts, e-eq, exact}
 use Rattle.rounding.specs.Laws.{rounds}
+use Rattle.ints.specs.Bound.{bounds, fits64}
 use Rattle.electric.proofs.Parts.{same-cents}
 use Rattle.electric.proofs.Bills.{first-is}
-use Rattle.ints.specs.Bound.{bounds, fits64}
-use borrow.Author.Needs.{needs}
 use Rattle.electric.proofs.levels.first_part.Statement.{statement}
 use Rattle.electric.proofs.levels.first_part.Tie as tie
-use Rattle.electric.proofs.levels.first_part.Reads as reads
-use Rattle.electric.proofs.levels.first_part.Lts as lts
-use Rattle.rounding.proofs.round_div.Reads as round-div-reads
 
 cast-round-div : tie.Need-cast-round-div
 cast-round-div c = fits64 (search bounds depth 30) tt

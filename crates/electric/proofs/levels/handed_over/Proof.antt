@@ -1,13 +1,10 @@
 -- `levels::handed_over` is the handover of the run that enters. Assumes nothing.
-use Rattle.ints.specs.Exact.{exacts, exact}
-use Rattle.electric.proofs.Parts.{enters-first, enters-second, enters-neither}
-use Rattle.ints.specs.Bound.{bounds, fits64}
 use borrow.Author.Needs.{needs}
+use Rattle.ints.specs.Exact.{exacts, exact}
+use Rattle.ints.specs.Bound.{bounds, fits64}
+use Rattle.electric.proofs.Parts.{enters-first, enters-second, enters-neither}
 use Rattle.electric.proofs.levels.handed_over.Statement.{statement}
 use Rattle.electric.proofs.levels.handed_over.Tie as tie
-use Rattle.electric.proofs.levels.handed_over.Reads as reads
-use Rattle.electric.proofs.levels.handed_over.Lts as lts
-use Rattle.electric_rules.proofs.Run.none.Reads as none-reads
 
 add-t8 : tie.Need-add-t8
 add-t8 c = fits64 (search bounds depth 30) tt

@@ -1,15 +1,12 @@
 -- `levels::interest` is the month's interest on the balance that bears it. Assumes nothing.
+use borrow.Author.Needs.{needs}
 use Rattle.ints.specs.Exact.{exacts, e-eq, exact}
 use Rattle.rounding.specs.Laws.{rounds}
-use Rattle.electric.proofs.Parts.{same-cents}
 use Rattle.electric_rules.specs.Levels.{bearingOf, interestOn}
 use Rattle.ints.specs.Bound.{bounds, fits64}
-use borrow.Author.Needs.{needs}
+use Rattle.electric.proofs.Parts.{same-cents}
 use Rattle.electric.proofs.levels.interest.Statement.{statement}
 use Rattle.electric.proofs.levels.interest.Tie as tie
-use Rattle.electric.proofs.levels.interest.Reads as reads
-use Rattle.electric.proofs.levels.interest.Lts as lts
-use Rattle.rounding.proofs.round_div.Reads as round-div-reads
 
 add-round-div : tie.Need-add-round-div
 add-round-div c = fits64 (search bounds depth 30) tt

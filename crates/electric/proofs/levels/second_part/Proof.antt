@@ -5,13 +5,11 @@ use mir.Syntax.{w64}
 use mir.Val.{toZ, ofZ}
 use Rattle.ints.specs.Exact.{exacts, exact}
 use Rattle.ints.specs.Range.{Within, between-same}
+use Rattle.ints.specs.Bound.{bounds, fits64}
 use Rattle.electric.proofs.Parts.{same-cents}
 use Rattle.electric.proofs.Bills.{line-within, first-within, second-is}
-use Rattle.ints.specs.Bound.{bounds, fits64}
 use Rattle.electric.proofs.levels.second_part.Statement.{statement}
 use Rattle.electric.proofs.levels.second_part.Tie as tie
-use Rattle.electric.proofs.levels.second_part.Reads as reads
-use Rattle.electric.proofs.levels.second_part.Lts as lts
 
 sub-t5 : tie.Need-sub-t5
 sub-t5 c = let s = c .before .before .before .before .args in

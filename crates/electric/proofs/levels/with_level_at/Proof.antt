@@ -4,13 +4,11 @@ use mathlib.Core.Bool.{Bool, cond}
 use lib.IntN.{ℤ, pos}
 use mir.Syntax.{w64}
 use mir.Val.{SFits, ofZ}
+use borrow.Author.Needs.{needs}
 use Rattle.ints.specs.Machine.{eqZ-false, eq-bits, zero64}
 use Rattle.electric_rules.specs.Next.{withLevels, withLevelAt}
-use borrow.Author.Needs.{needs}
 use Rattle.electric.proofs.levels.with_level_at.Statement.{statement}
 use Rattle.electric.proofs.levels.with_level_at.Tie as tie
-use Rattle.electric.proofs.levels.with_level_at.Reads as reads
-use Rattle.electric.proofs.levels.with_level_at.Lts as lts
 
 returns : tie.Need-returns
 returns c = let s = c .before .before .before .args in

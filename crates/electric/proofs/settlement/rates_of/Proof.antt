@@ -4,8 +4,6 @@ use borrow.Author.Tests.{ne-eqb}
 use Rattle.electric_rules.specs.Rates.{ratesOf}
 use Rattle.electric.proofs.settlement.rates_of.Statement.{statement}
 use Rattle.electric.proofs.settlement.rates_of.Tie as tie
-use Rattle.electric.proofs.settlement.rates_of.Reads as reads
-use Rattle.electric.proofs.settlement.rates_of.Lts as lts
 
 returns : tie.Need-returns
 unfolding ratesOf

@@ -5,14 +5,12 @@ use mir.Syntax.{w64}
 use mir.Val.{toZ, ofZ}
 use Rattle.ints.specs.Exact.{exacts, exact}
 use Rattle.ints.specs.Range.{Within, between-same}
-use Rattle.electric.proofs.Parts.{same-remainder}
 use Rattle.electric_rules.specs.Settlement.{remainderAfter}
 use Rattle.electric_rules.specs.Sizes.{shareable-within, share-within}
 use Rattle.ints.specs.Bound.{bounds, fits64}
+use Rattle.electric.proofs.Parts.{same-remainder}
 use Rattle.electric.proofs.settlement.remainder_after.Statement.{statement}
 use Rattle.electric.proofs.settlement.remainder_after.Tie as tie
-use Rattle.electric.proofs.settlement.remainder_after.Reads as reads
-use Rattle.electric.proofs.settlement.remainder_after.Lts as lts
 
 mul-t5 : tie.Need-mul-t5
 mul-t5 c = let s = c .before .before .args in

@@ -3,20 +3,17 @@ use mathlib.Core.Path.{_≡_, _∙_}
 use lib.IntN.{pos, _*ℤ_}
 use mir.Syntax.{w64}
 use mir.Val.{toZ, ofZ}
+use borrow.Author.Needs.{needs}
 use Rattle.ints.specs.Exact.{exacts, e-eq, exact}
 use Rattle.ints.specs.Range.{Between, Within, between-same}
 use Rattle.rounding.specs.Laws.{rounds}
 use Rattle.rounding.specs.Round.{round}
-use Rattle.electric.proofs.Parts.{same-cents}
 use Rattle.electric_rules.specs.Settlement.{secondaryShare}
 use Rattle.electric_rules.specs.Sizes.{share-within, weight-within}
 use Rattle.ints.specs.Bound.{bounds, fits64}
-use borrow.Author.Needs.{needs}
+use Rattle.electric.proofs.Parts.{same-cents}
 use Rattle.electric.proofs.settlement.secondary_share.Statement.{statement}
 use Rattle.electric.proofs.settlement.secondary_share.Tie as tie
-use Rattle.electric.proofs.settlement.secondary_share.Reads as reads
-use Rattle.electric.proofs.settlement.secondary_share.Lts as lts
-use Rattle.rounding.proofs.round_div.Reads as round-div-reads
 
 mul-round-div : tie.Need-mul-round-div
 mul-round-div c = let s = c .before .before .before .before .args in

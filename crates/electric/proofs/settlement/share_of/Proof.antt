@@ -3,19 +3,16 @@ use mathlib.Core.Path.{_≡_, _∙_}
 use lib.IntN.{pos}
 use mir.Syntax.{w64}
 use mir.Val.{toZ, ofZ}
+use borrow.Author.Needs.{needs}
 use Rattle.ints.specs.Exact.{exacts, e-eq, exact}
 use Rattle.ints.specs.Range.{Within, between-same}
 use Rattle.rounding.specs.Laws.{rounds}
 use Rattle.rounding.specs.Round.{round}
-use Rattle.electric.proofs.Parts.{same-cents}
 use Rattle.electric_rules.specs.Settlement.{shareOf}
 use Rattle.electric_rules.specs.Sizes.{shareable-within}
-use borrow.Author.Needs.{needs}
+use Rattle.electric.proofs.Parts.{same-cents}
 use Rattle.electric.proofs.settlement.share_of.Statement.{statement}
 use Rattle.electric.proofs.settlement.share_of.Tie as tie
-use Rattle.electric.proofs.settlement.share_of.Reads as reads
-use Rattle.electric.proofs.settlement.share_of.Lts as lts
-use Rattle.rounding.proofs.round_div.Reads as round-div-reads
 
 round-div-requires : tie.Need-round-div-requires
 round-div-requires c κs = search needs

@@ -1,12 +1,10 @@
 -- `settlement::shareable_of` is what the period is to share. Assumes nothing.
 use Rattle.ints.specs.Exact.{exacts, exact}
-use Rattle.electric.proofs.Parts.{same-remainder}
 use Rattle.electric_rules.specs.Settlement.{varianceOf, shareableOf}
 use Rattle.ints.specs.Bound.{bounds, fits64}
+use Rattle.electric.proofs.Parts.{same-remainder}
 use Rattle.electric.proofs.settlement.shareable_of.Statement.{statement}
 use Rattle.electric.proofs.settlement.shareable_of.Tie as tie
-use Rattle.electric.proofs.settlement.shareable_of.Reads as reads
-use Rattle.electric.proofs.settlement.shareable_of.Lts as lts
 
 add-sold : tie.Need-add-sold
 add-sold c = fits64 (search bounds depth 30) tt

@@ -2,14 +2,6 @@
 use borrow.Author.Needs.{needs}
 use Rattle.electric.proofs.settlement.shares_of.Statement.{statement}
 use Rattle.electric.proofs.settlement.shares_of.Tie as tie
-use Rattle.electric.proofs.settlement.shares_of.Reads as reads
-use Rattle.electric.proofs.settlement.shares_of.Lts as lts
-use Rattle.electric.proofs.settlement.primary_share.Reads as primary-share-reads
-use Rattle.electric.proofs.settlement.remainder_after.Reads as remainder-after-reads
-use Rattle.electric.proofs.settlement.secondary_share.Reads as secondary-share-reads
-use Rattle.electric.proofs.settlement.share_of.Reads as share-of-reads
-use Rattle.electric.proofs.settlement.shareable_of.Reads as shareable-of-reads
-use Rattle.electric.proofs.settlement.weight_by.Reads as weight-by-reads
 
 shareable-of-requires : tie.Need-shareable-of-requires
 shareable-of-requires c κs = search needs

@@ -4,19 +4,15 @@ use lib.IntN.{_*ℤ_}
 use mir.Syntax.{w64}
 use mir.Val.{SFits}
 use mir.Facts.{toZ-ofZ}
-use Rattle.ints.specs.Bound.{b-between}
+use borrow.Author.Needs.{needs}
+use Rattle.ints.specs.Bound.{b-between, bounds, fits64}
 use Rattle.ints.specs.Machine.{handed-on}
 use Rattle.rounding.specs.Weight.{weightOr0, weightOr0-is}
 use Rattle.electric_rules.specs.Settlement.{weightBy}
 use Rattle.electric_rules.specs.Sizes.{weighable-secondary, weighable-primary}
-use Rattle.electric.specs.Shares.{asWeight}
-use Rattle.ints.specs.Bound.{bounds, fits64}
-use borrow.Author.Needs.{needs}
 use Rattle.electric.proofs.settlement.weight_by.Statement.{statement}
+use Rattle.electric.specs.Shares.{asWeight}
 use Rattle.electric.proofs.settlement.weight_by.Tie as tie
-use Rattle.electric.proofs.settlement.weight_by.Reads as reads
-use Rattle.electric.proofs.settlement.weight_by.Lts as lts
-use Rattle.rounding.proofs.weight.Reads as weight-reads
 
 mul-weight : tie.Need-mul-weight
 mul-weight c = fits64 (search bounds depth 30) tt

@@ -4,8 +4,6 @@ use borrow.Author.Tests.{ne-eqb}
 use Rattle.electric_rules.specs.Calendar.{entering}
 use Rattle.electric_refusals.proofs.calendar.entering.Statement.{statement}
 use Rattle.electric_refusals.proofs.calendar.entering.Tie as tie
-use Rattle.electric_refusals.proofs.calendar.entering.Reads as reads
-use Rattle.electric_refusals.proofs.calendar.entering.Lts as lts
 
 returns : tie.Need-returns
 unfolding entering

@@ -3,8 +3,6 @@ use mathlib.Core.Path.{refl}
 use Rattle.electric_rules.specs.Calendar.{settles}
 use Rattle.electric_refusals.proofs.calendar.settles.Statement.{statement}
 use Rattle.electric_refusals.proofs.calendar.settles.Tie as tie
-use Rattle.electric_refusals.proofs.calendar.settles.Reads as reads
-use Rattle.electric_refusals.proofs.calendar.settles.Lts as lts
 
 returns : tie.Need-returns
 unfolding settles

@@ -1,13 +1,10 @@
 -- `limits::dates_in_limits` tests the division, the month and what is settled. Assumes nothing.
 use mathlib.Core.Bool.{not, _&&_, _||_}
 use lib.Dec.{leb}
-use Rattle.electric_rules.specs.Limits.{datesInLimits}
 use borrow.Author.Needs.{needs}
+use Rattle.electric_rules.specs.Limits.{datesInLimits}
 use Rattle.electric_refusals.proofs.limits.dates_in_limits.Statement.{statement}
 use Rattle.electric_refusals.proofs.limits.dates_in_limits.Tie as tie
-use Rattle.electric_refusals.proofs.limits.dates_in_limits.Reads as reads
-use Rattle.electric_refusals.proofs.limits.dates_in_limits.Lts as lts
-use Rattle.electric_refusals.proofs.calendar.settles.Reads as settles-reads
 
 settles-requires : tie.Need-settles-requires
 settles-requires c κs = search needs

@@ -1,14 +1,9 @@
 -- `limits::in_limits` tests the limits of the book: of its dates, its period and its levels. Assumes nothing.
 use mathlib.Core.Bool.{_&&_}
-use Rattle.electric_rules.specs.Limits.{inLimits}
 use borrow.Author.Needs.{needs}
+use Rattle.electric_rules.specs.Limits.{inLimits}
 use Rattle.electric_refusals.proofs.limits.in_limits.Statement.{statement}
 use Rattle.electric_refusals.proofs.limits.in_limits.Tie as tie
-use Rattle.electric_refusals.proofs.limits.in_limits.Reads as reads
-use Rattle.electric_refusals.proofs.limits.in_limits.Lts as lts
-use Rattle.electric_refusals.proofs.limits.dates_in_limits.Reads as dates-in-limits-reads
-use Rattle.electric_refusals.proofs.limits.level_in_limits.Reads as level-in-limits-reads
-use Rattle.electric_refusals.proofs.limits.period_in_limits.Reads as period-in-limits-reads
 
 dates-in-limits-requires : tie.Need-dates-in-limits-requires
 dates-in-limits-requires c κs = search needs

@@ -4,14 +4,11 @@ use lib.IntN.{pos}
 use mir.Syntax.{w64}
 use mir.Val.{SFits}
 use mir.Facts.{toZ-ofZ}
+use borrow.Author.Needs.{needs}
 use Rattle.ints.specs.Range.{inRange}
 use Rattle.electric_rules.specs.Limits.{kwhInLimits}
-use borrow.Author.Needs.{needs}
 use Rattle.electric_refusals.proofs.limits.kwh_in_limits.Statement.{statement}
 use Rattle.electric_refusals.proofs.limits.kwh_in_limits.Tie as tie
-use Rattle.electric_refusals.proofs.limits.kwh_in_limits.Reads as reads
-use Rattle.electric_refusals.proofs.limits.kwh_in_limits.Lts as lts
-use Rattle.ints.proofs.in_range.Reads as in-range-reads
 
 in-range-requires : tie.Need-in-range-requires
 in-range-requires c κs = search needs

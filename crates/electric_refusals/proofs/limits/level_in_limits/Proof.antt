@@ -1,13 +1,9 @@
 -- `limits::level_in_limits` tests the limits of a level: of each of its parts. Assumes nothing.
 use mathlib.Core.Bool.{_&&_}
-use Rattle.electric_rules.specs.Limits.{levelInLimits}
 use borrow.Author.Needs.{needs}
+use Rattle.electric_rules.specs.Limits.{levelInLimits}
 use Rattle.electric_refusals.proofs.limits.level_in_limits.Statement.{statement}
 use Rattle.electric_refusals.proofs.limits.level_in_limits.Tie as tie
-use Rattle.electric_refusals.proofs.limits.level_in_limits.Reads as reads
-use Rattle.electric_refusals.proofs.limits.level_in_limits.Lts as lts
-use Rattle.amounts.proofs.Cents.in_limits.Reads as in-limits-reads
-use Rattle.electric_refusals.proofs.limits.run_in_limits.Reads as run-in-limits-reads
 
 in-limits-requires : tie.Need-in-limits-requires
 in-limits-requires c κs = search needs

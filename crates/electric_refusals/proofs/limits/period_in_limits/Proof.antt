@@ -1,14 +1,9 @@
 -- `limits::period_in_limits` tests the limits of a period: of each of its amounts. Assumes nothing.
 use mathlib.Core.Bool.{_&&_}
-use Rattle.electric_rules.specs.Limits.{periodInLimits}
 use borrow.Author.Needs.{needs}
+use Rattle.electric_rules.specs.Limits.{periodInLimits}
 use Rattle.electric_refusals.proofs.limits.period_in_limits.Statement.{statement}
 use Rattle.electric_refusals.proofs.limits.period_in_limits.Tie as tie
-use Rattle.electric_refusals.proofs.limits.period_in_limits.Reads as reads
-use Rattle.electric_refusals.proofs.limits.period_in_limits.Lts as lts
-use Rattle.amounts.proofs.Cents.in_limits.Reads as in-limits-reads
-use Rattle.electric_refusals.proofs.limits.kwh_in_limits.Reads as kwh-in-limits-reads
-use Rattle.electric_refusals.proofs.limits.remainder_in_limits.Reads as remainder-in-limits-reads
 
 in-limits-requires : tie.Need-in-limits-requires
 in-limits-requires c κs = search needs

@@ -4,14 +4,11 @@ use lib.IntN.{pos, negℤ}
 use mir.Syntax.{w64}
 use mir.Val.{SFits}
 use mir.Facts.{toZ-ofZ}
+use borrow.Author.Needs.{needs}
 use Rattle.ints.specs.Range.{inRange}
 use Rattle.electric_rules.specs.Limits.{remainderInLimits}
-use borrow.Author.Needs.{needs}
 use Rattle.electric_refusals.proofs.limits.remainder_in_limits.Statement.{statement}
 use Rattle.electric_refusals.proofs.limits.remainder_in_limits.Tie as tie
-use Rattle.electric_refusals.proofs.limits.remainder_in_limits.Reads as reads
-use Rattle.electric_refusals.proofs.limits.remainder_in_limits.Lts as lts
-use Rattle.ints.proofs.in_range.Reads as in-range-reads
 
 sub-in-range : tie.Need-sub-in-range
 sub-in-range c = search needs

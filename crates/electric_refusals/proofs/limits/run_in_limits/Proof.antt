@@ -1,13 +1,9 @@
 -- `limits::run_in_limits` tests the limits of a run: of its factor and its cents. Assumes nothing.
 use mathlib.Core.Bool.{_&&_}
-use Rattle.electric_rules.specs.Limits.{runInLimits}
 use borrow.Author.Needs.{needs}
+use Rattle.electric_rules.specs.Limits.{runInLimits}
 use Rattle.electric_refusals.proofs.limits.run_in_limits.Statement.{statement}
 use Rattle.electric_refusals.proofs.limits.run_in_limits.Tie as tie
-use Rattle.electric_refusals.proofs.limits.run_in_limits.Reads as reads
-use Rattle.electric_refusals.proofs.limits.run_in_limits.Lts as lts
-use Rattle.amounts.proofs.Cents.in_limits.Reads as Cents-in-limits-reads
-use Rattle.amounts.proofs.Points.in_limits.Reads as Points-in-limits-reads
 
 in-limits-requires : tie.Need-in-limits-requires
 in-limits-requires c κs = search needs

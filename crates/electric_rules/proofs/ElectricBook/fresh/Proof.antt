@@ -2,9 +2,6 @@
 use borrow.Author.Needs.{needs}
 use Rattle.electric_rules.proofs.ElectricBook.fresh.Statement.{statement}
 use Rattle.electric_rules.proofs.ElectricBook.fresh.Tie as tie
-use Rattle.electric_rules.proofs.ElectricBook.fresh.Reads as reads
-use Rattle.electric_rules.proofs.ElectricBook.fresh.Lts as lts
-use Rattle.electric_rules.proofs.Level.fresh.Reads as fresh-reads
 
 fresh-requires : tie.Need-fresh-requires
 fresh-requires c κs = search needs

@@ -4,16 +4,13 @@ use mathlib.Core.List.{[], _∷_}
 use Prim.Native.Nat.{_<_, _≤_}
 use native.Mathlib.Omega.{arith}
 use borrow.Author.Tests.{lt-ltb, le-ltb}
+use borrow.Author.Needs.{needs}
 use Rattle.refusals.specs.Rows.{row}
 use Rattle.refusals.specs.Laws.{at-row, accepted, gives-refusal, gives-asked}
 use Rattle.postings.specs.declared.Answer.the-variants.{Done}
-use Rattle.electric_rules.specs.Book.{posted, refused, openedOf}
-use borrow.Author.Needs.{needs}
 use Rattle.electric_rules.proofs.ElectricBook.open.Statement.{statement}
+use Rattle.electric_rules.specs.Book.{posted, refused, openedOf}
 use Rattle.electric_rules.proofs.ElectricBook.open.Tie as tie
-use Rattle.electric_rules.proofs.ElectricBook.open.Reads as reads
-use Rattle.electric_rules.proofs.ElectricBook.open.Lts as lts
-use Rattle.electric_rules.proofs.ElectricBook.fresh.Reads as fresh-reads
 
 fresh-requires : tie.Need-fresh-requires
 fresh-requires c κs = search needs

@@ -1,12 +1,9 @@
 -- `Level::fresh` is the fresh level: each of its runs is the one that `Run::none` gives. Assumes nothing.
 use lib.IntN.{pos}
-use Rattle.electric_rules.specs.Book.{levelOf}
 use borrow.Author.Needs.{needs}
 use Rattle.electric_rules.proofs.Level.fresh.Statement.{statement}
+use Rattle.electric_rules.specs.Book.{levelOf}
 use Rattle.electric_rules.proofs.Level.fresh.Tie as tie
-use Rattle.electric_rules.proofs.Level.fresh.Reads as reads
-use Rattle.electric_rules.proofs.Level.fresh.Lts as lts
-use Rattle.electric_rules.proofs.Run.none.Reads as none-reads
 
 none-requires : tie.Need-none-requires
 none-requires c κs = search needs
