@@ -13,6 +13,9 @@ ghost use Rattle.amounts.specs.Text.{centsText, pointsText, textWritten, textLe
 ghost use Rattle.records.specs.Records.{readOf, recordWritten, recordLeft};
 ghost use Rattle.host.specs.Books.{bookOf};
 
+mod electric_book;
+mod replies;
+
 // round(a/b); a divisor below 1 gives 0.
 #[no_mangle]
 pub extern "C" fn neapscroll_round_div(a: i64, b: i64) -> i64

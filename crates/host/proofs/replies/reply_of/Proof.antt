@@ -1,0 +1,83 @@
+-- `replies::reply_of` is the reply for the answer, case by case. Assumes nothing.
+use mathlib.Core.Path.{sym, ap, _∙_}
+use borrow.Author.Needs.{needs}
+use Rattle.host.proofs.replies.reply_of.Statement.{statement}
+use Rattle.host.specs.Replies.{replyOf}
+use Rattle.host.proofs.replies.reply_of.Tie as tie
+
+enum-known-answer : tie.Need-enum-known-answer
+enum-known-answer c = search needs
+
+of-cents-requires : tie.Need-of-cents-requires
+of-cents-requires c κs = search needs
+
+enum-known-answer-2 : tie.Need-enum-known-answer-2
+enum-known-answer-2 c = search needs
+
+of-points-requires : tie.Need-of-points-requires
+of-points-requires c κs = search needs
+
+enum-known-answer-3 : tie.Need-enum-known-answer-3
+enum-known-answer-3 c = search needs
+
+of-points-requires-2 : tie.Need-of-points-requires-2
+of-points-requires-2 c κs = search needs
+
+enum-known-answer-4 : tie.Need-enum-known-answer-4
+enum-known-answer-4 c = search needs
+
+of-cents-requires-2 : tie.Need-of-cents-requires-2
+of-cents-requires-2 c κs = search needs
+
+enum-told : tie.Need-enum-told
+enum-told c = search needs
+
+refused-requires : tie.Need-refused-requires
+refused-requires c κs = search needs
+
+enum-known-answer-5 : tie.Need-enum-known-answer-5
+enum-known-answer-5 c = search needs
+
+refused-requires-2 : tie.Need-refused-requires-2
+refused-requires-2 c κs = search needs
+
+returns : tie.Need-returns
+returns c = c .of-cents .ensures ∙ ap replyOf (sym (c .before .before .answer .given .1))
+
+returns-2 : tie.Need-returns-2
+returns-2 c = c .of-points .ensures ∙ ap replyOf (sym (c .before .before .answer2 .given .1))
+
+returns-3 : tie.Need-returns-3
+returns-3 c = c .of-points2 .ensures ∙ ap replyOf (sym (c .before .before .answer3 .given .1))
+
+returns-4 : tie.Need-returns-4
+returns-4 c = c .of-cents2 .ensures ∙ ap replyOf (sym (c .before .before .answer4 .given .1))
+
+returns-5 : tie.Need-returns-5
+returns-5 c = c .refused .ensures ∙ ap replyOf (sym (c .before .enum-told .given .1))
+
+returns-6 : tie.Need-returns-6
+returns-6 c = c .refused2 .ensures ∙ ap replyOf (sym (c .before .before .answer5 .given .1))
+
+pub reply-of-spec : {M : Type 1} → statement M
+reply-of-spec =
+    tie.close
+    (tie.spec
+    enum-known-answer
+    of-cents-requires
+    enum-known-answer-2
+    of-points-requires
+    enum-known-answer-3
+    of-points-requires-2
+    enum-known-answer-4
+    of-cents-requires-2
+    enum-told
+    refused-requires
+    enum-known-answer-5
+    refused-requires-2
+    returns
+    returns-2
+    returns-3
+    returns-4
+    returns-5
+    returns-6)

@@ -1,0 +1,19 @@
+-- What a host is handed for a book's answer: document 01's number and values, and the book.
+use Prim.Native.Nat.{ℕ}
+use lib.IntN.{ℤ, pos}
+use lib.ListN.{getD}
+use Rattle.postings.specs.Answers.{answerNumber, answerValues}
+use Rattle.postings.specs.declared.Answer.{Answer}
+use Rattle.electric_rules.specs.declared.Posted.{Posted}
+use Rattle.host.specs.declared.replies.Reply.{Reply}
+use Rattle.host.specs.declared.electric_book.ElectricReply.{ElectricReply}
+
+abbrev pub reply : ℕ → ℤ → ℤ → Reply
+reply number first second = record { number = number; first = first; second = second }
+
+-- 0 where there are fewer values
+abbrev pub replyOf : Answer → Reply
+replyOf answer = reply (answerNumber answer) (getD (answerValues answer) 0 (pos 0)) (getD (answerValues answer) 1 (pos 0))
+
+abbrev pub electricReply : Posted → ElectricReply
+electricReply posted = record { reply = replyOf (posted .answer); book = posted .book }
