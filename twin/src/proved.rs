@@ -1,9 +1,11 @@
 //! The proved functions of the static library, as safe functions.
 
+use crate::electric::{ElectricBook, Posted, Reply};
 use crate::records::{Book, Posting, Read};
 use crate::written::Written;
 
 mod exported {
+    use crate::electric::{ElectricBook, Posted};
     use crate::records::Posting;
 
     /// Number 0: the posting was found, and the place is the next one.
@@ -44,6 +46,8 @@ mod exported {
             buffer: *mut u8,
             length: usize,
         ) -> Writing;
+        pub fn neapscroll_electric_open(division: u8) -> Posted;
+        pub fn neapscroll_electric_post(book: ElectricBook, posting: Posting) -> Posted;
     }
 }
 
@@ -94,6 +98,28 @@ pub fn write_record(book: Book, posting: Posting, buffer: &mut [u8]) -> Written 
     written(unsafe { exported::neapscroll_write_record(steam, posting, start, length) })
 }
 
+/// The fresh book of the division, as proved.
+#[inline]
+pub fn electric_open(division: u8) -> Posted {
+    // SAFETY: the function is total on bytes and touches no memory of its caller.
+    posted(unsafe { exported::neapscroll_electric_open(division) })
+}
+
+/// What the posting gives, as proved.
+#[inline]
+pub fn electric_post(book: ElectricBook, posting: Posting) -> Posted {
+    // SAFETY: the function is total on books and postings and touches no memory of its caller.
+    posted(unsafe { exported::neapscroll_electric_post(book, posting) })
+}
+
+#[inline]
+fn posted(posted: Posted) -> Posted {
+    if posted.reply.number != 0 {
+        refused_posting(posted.reply);
+    }
+    posted
+}
+
 #[inline]
 fn read(reading: exported::Reading) -> Read {
     if reading.number != 0 {
@@ -142,4 +168,14 @@ fn refused_writing(writing: exported::Writing) -> Written {
     let number = writing.number.into();
     assert_eq!(writing.length, 0, "proved refusal {number}");
     Written::Refused(number)
+}
+
+#[cold]
+fn refused_posting(reply: Reply) {
+    let Reply {
+        number,
+        first,
+        second,
+    } = reply;
+    assert_eq!((first, second), (0, 0), "proved refusal {number}");
 }

@@ -36,8 +36,8 @@ const HEAD_LENGTH: usize = 2;
 const FIELD_LENGTH: usize = 8;
 
 const NO_HEAD: Refusal = 1;
-const UNKNOWN_KIND: Refusal = 2;
-const FIELD_LACKED_BY_KIND: Refusal = 3;
+pub(crate) const UNKNOWN_KIND: Refusal = 2;
+pub(crate) const FIELD_LACKED_BY_KIND: Refusal = 3;
 const RECORD_CUT: Refusal = 4;
 const FIELD_OF_ZERO: Refusal = 5;
 
