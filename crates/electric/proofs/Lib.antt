@@ -1,5 +1,6 @@
 -- Laws over plain values that the functions' proofs cite.
 pub mod Parts
 pub mod Bills
+pub mod LastRow
 pub mod Settling
 pub mod Ready

@@ -16,7 +16,7 @@ use Rattle.electric_rules.specs.Book.{posted, refused}
 use Rattle.electric_rules.specs.Next.{nextOf, answerOf}
 use Rattle.electric_rules.specs.Ranges.{BookWithin, book-within}
 use Rattle.electric_rules.specs.Refusals.{rowsBefore, rowsAfter, postOf}
-use Rattle.electric.specs.Stored.{storedOr12, postedAt}
+use Rattle.electric.specs.Stored.{storedOr12, effectAt}
 
 module _ (b : ElectricBook) (p : Posting) {n : ℕ} (e : n ≡ refusalBy (rowsBefore b p)) where
   -- a row before the next book refuses
@@ -40,9 +40,9 @@ module _ (b : ElectricBook) (p : Posting) {n : ℕ} (e : n ≡ refusalBy (rowsBe
     pub posting-ready : Held Electric (kindOf (p .kind)) p
     posting-ready = in-range-held Electric p (none .1 .1 .1 .0)
 
-    pub posted-is : postedAt (kindOf (p .kind)) b p ≡ postOf b p
+    pub stored-is : storedOr12 b (effectAt (kindOf (p .kind)) b p) ≡ postOf b p
     unfolding postOf storedOr12
-    posted-is = sym (gives-later (rowsBefore b p) (posted (answerOf b p) (nextOf b p)) (refused b) (rowsAfter (nextOf b p)) tt (sym e ∙ z))
+    stored-is = sym (gives-later (rowsBefore b p) (posted (answerOf b p) (nextOf b p)) (refused b) (rowsAfter (nextOf b p)) tt (sym e ∙ z))
 
 -- of the kinds that the book has, 6 is what 1 to 5 leave
 pub is-adjustment : (n : ℕ) → unknownKind Electric n ≡ false → (n ≡ 1 → ⊥) → (n ≡ 2 → ⊥) → (n ≡ 3 → ⊥) → (n ≡ 4 → ⊥) → (n ≡ 5 → ⊥) → n ≡ 6

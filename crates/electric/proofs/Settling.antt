@@ -1,45 +1,32 @@
--- A settlement's filings make the settled book and its answer, and a factor that cannot be stored makes none. Assumes nothing.
+-- A settlement's filings make a book that is stored or refused as the rules' own is: they are the rules' filings where both factors are in
+-- limits, and where one is not, neither book is. Assumes nothing.
 use mathlib.Core.Path.{_≡_, refl, sym, _∙_, ap}
-use mathlib.Core.List.{[]}
-use mathlib.Core.Bool.{Bool, true, false, not, _&&_}
-use native.Mathlib.Omega.{arith}
-use lib.IntN.{ℤ}
-use Rattle.ints.specs.Flags.{both}
-use Rattle.ints.specs.Range.{Within}
-use Rattle.refusals.specs.Laws.{at-row, gives-refusal}
-use Rattle.amounts.specs.Amounts.{points, pointsInLimits, points-within}
+use mathlib.Core.Bool.{Bool, true, false, _&&_}
+use lib.IntN.{ℤ, pos}
+use Rattle.ints.specs.Range.{inRange}
+use Rattle.amounts.specs.Amounts.{points, pointsInLimits}
+use Rattle.amounts.specs.declared.Points.{Points}
 use Rattle.postings.specs.Kinds.{settle}
 use Rattle.postings.specs.declared.Posting.{Posting}
+use Rattle.postings.specs.declared.Answer.the-variants.{FiledLevels}
+use Rattle.electric_rules.specs.declared.Run.{Run}
 use Rattle.electric_rules.specs.declared.Level.{Level}
 use Rattle.electric_rules.specs.declared.ElectricBook.{ElectricBook}
-use Rattle.electric_rules.specs.Book.{posted, refused}
-use Rattle.electric_rules.specs.Levels.{settledLevel}
+use Rattle.electric_rules.specs.declared.Posted.{Posted}
+use Rattle.electric_rules.specs.Book.{remainder, run, posted}
+use Rattle.electric_rules.specs.Rates.{ratesOf}
+use Rattle.electric_rules.specs.Settlement.{remainderAfter, secondaryShare, primaryShare}
+use Rattle.electric_rules.specs.Levels.{owedBy, factorFor, filedLevel, settledLevel}
 use Rattle.electric_rules.specs.Limits.{runInLimits, levelInLimits, inLimits}
-use Rattle.electric_rules.specs.Next.{settlePosted, filedAnswer, nextAt, answerAt}
-use Rattle.electric_rules.specs.Refusals.{rowsAfter}
-use Rattle.electric.specs.declared.filing.Filings.{Filings}
-use Rattle.electric.specs.Filings.{filing, filingsOf, settledBy, answerBy}
-use Rattle.electric.specs.Stored.{storedOr12, postedAt}
+use Rattle.electric_rules.specs.Next.{settledWith, settlePosted, filedAnswer, nextAt, answerAt}
+use Rattle.electric.proofs.LastRow.{out-of-limits-12}
+use Rattle.electric.specs.Filings.{narrowed}
+use Rattle.electric.specs.Stored.{storedOr12, effectAt, StoredAs}
 
-pub same-filing : {a b c d : ℤ} → a ≡ b → c ≡ d → filing a c ≡ filing b d
-same-filing e f = λ i. filing (e i) (f i)
+pub same-run : {f g : Points} {a b : ℤ} → f ≡ g → a ≡ b → _≡_ {A = Run} (record { factor = f; due = record { 0 = a } }) (record { factor = g; due = record { 0 = b } })
+same-run e h = λ i. record { factor = e i; due = record { 0 = h i } }
 
--- ---- factors that can be stored
-
-module _ (f : Filings) where
-  abbrev storable : Bool
-  storable = pointsInLimits (points (f .secondary .factor .0)) && pointsInLimits (points (f .primary .factor .0))
-
-  pub factors-within : storable ≡ true → Within 99999 (f .secondary .factor .0) × Within 99999 (f .primary .factor .0)
-  factors-within e =
-      let p = both (pointsInLimits (points (f .secondary .factor .0))) _ e in
-      (points-within (points (f .secondary .factor .0)) (p .0), points-within (points (f .primary .factor .0)) (p .1))
-
-  pub settled-is : (b : ElectricBook) (p : Posting) → f ≡ filingsOf b p → storedOr12 b (settledBy b f) (answerBy f) ≡ postedAt settle b p
-  unfolding nextAt answerAt settlePosted filedAnswer settledLevel
-  settled-is b p e = λ i. storedOr12 b (settledBy b (e i)) (answerBy (e i))
-
--- ---- one that cannot
+-- ---- a factor out of limits makes a book out of limits
 
 and-none : (t : Bool) → t && false ≡ false
 and-none true = refl
@@ -57,16 +44,50 @@ primary-out : (b : ElectricBook) → levelInLimits (b .primary) ≡ false → in
 unfolding inLimits
 primary-out b e = simp (e, and-none)
 
-either-out : (b : ElectricBook) → pointsInLimits (b .secondary .pending .factor) && pointsInLimits (b .primary .pending .factor) ≡ false → inLimits b ≡ false
-either-out b e = go (pointsInLimits (b .secondary .pending .factor)) refl
-  where
-    go : (t : Bool) → pointsInLimits (b .secondary .pending .factor) ≡ t → inLimits b ≡ false
-    go false s = secondary-out b (level-out (b .secondary) s)
-    go true s = primary-out b (level-out (b .primary) (ap (λ (t : Bool). t && pointsInLimits (b .primary .pending .factor)) (sym s) ∙ e))
+-- ---- the narrowed factor
 
-pub refused-is : (f : Filings) (b : ElectricBook) (p : Posting) → f ≡ filingsOf b p → storable f ≡ false → refused b 12 ≡ postedAt settle b p
-unfolding nextAt answerAt settlePosted settledLevel storedOr12
-refused-is f b p e h =
-    sym
-    (gives-refusal (rowsAfter (nextAt settle b p)) (posted (answerAt settle b p) (nextAt settle b p)) (refused b) 12 (omega arith)
-    (at-row 12 [] (ap not (either-out (nextAt settle b p) ((λ i. storable (sym e i)) ∙ h)))))
+pub narrowed-in : (q : ℤ) → pointsInLimits (points q) ≡ true → narrowed q ≡ q
+unfolding narrowed
+narrowed-in q e = simp e
+
+pub narrowed-beyond : (q : ℤ) → pointsInLimits (points q) ≡ false → narrowed q ≡ pos 100000
+unfolding narrowed
+narrowed-beyond q e = simp e
+
+narrowed-out : (q : ℤ) → pointsInLimits (points q) ≡ false → pointsInLimits (points (narrowed q)) ≡ false
+unfolding pointsInLimits inRange
+narrowed-out q e = ap (λ (z : ℤ). pointsInLimits (points z)) (narrowed-beyond q e)
+
+-- ---- the settled book, by the levels' quotients
+
+module _ (b : ElectricBook) (p : Posting) where
+  -- what each level owes, and the quotient that is to bring it in
+  abbrev owedSecondary : ℤ
+  owedSecondary = owedBy (secondaryShare (ratesOf (b .division)) (b .period)) (b .secondary)
+
+  abbrev owedPrimary : ℤ
+  owedPrimary = owedBy (primaryShare (ratesOf (b .division)) (b .period)) (b .primary)
+
+  abbrev quotientSecondary : ℤ
+  quotientSecondary = factorFor owedSecondary (p .first)
+
+  abbrev quotientPrimary : ℤ
+  quotientPrimary = factorFor owedPrimary (p .second)
+
+  abbrev pub settledAt : ℤ → ℤ → Posted
+  settledAt f g =
+      posted (FiledLevels (points f) (points g))
+      (settledWith b (remainder (remainderAfter (ratesOf (b .division)) (b .period))) (filedLevel (run f owedSecondary) (b .secondary)) (filedLevel (run g owedPrimary) (b .primary)))
+
+  pub stored-as : StoredAs b (settledAt (narrowed quotientSecondary) (narrowed quotientPrimary)) (effectAt settle b p)
+  unfolding nextAt answerAt settlePosted filedAnswer settledLevel
+  stored-as = go (pointsInLimits (points quotientSecondary)) refl (pointsInLimits (points quotientPrimary)) refl
+    where
+      go :
+          (s : Bool) → pointsInLimits (points quotientSecondary) ≡ s → (t : Bool) → pointsInLimits (points quotientPrimary) ≡ t →
+          storedOr12 b (settledAt (narrowed quotientSecondary) (narrowed quotientPrimary)) ≡ storedOr12 b (settledAt quotientSecondary quotientPrimary)
+      go true e true f = λ i. storedOr12 b (settledAt (narrowed-in quotientSecondary e i) (narrowed-in quotientPrimary f i))
+      go false e t f =
+          out-of-limits-12 b _ (secondary-out _ (level-out _ (narrowed-out quotientSecondary e))) ∙ sym (out-of-limits-12 b _ (secondary-out _ (level-out _ e)))
+      go true e false f =
+          out-of-limits-12 b _ (primary-out _ (level-out _ (narrowed-out quotientPrimary f))) ∙ sym (out-of-limits-12 b _ (primary-out _ (level-out _ f)))

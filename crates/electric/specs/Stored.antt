@@ -1,17 +1,21 @@
 -- The last step of a posting that no earlier row refuses: refusal 12, or the answer and the next book.
+use mathlib.Core.Path.{_≡_}
 use Rattle.refusals.specs.Rows.{byTable}
 use Rattle.postings.specs.Kinds.{Kind}
 use Rattle.postings.specs.declared.Posting.{Posting}
-use Rattle.postings.specs.declared.Answer.{Answer}
 use Rattle.electric_rules.specs.declared.ElectricBook.{ElectricBook}
 use Rattle.electric_rules.specs.declared.Posted.{Posted}
 use Rattle.electric_rules.specs.Book.{posted, refused}
 use Rattle.electric_rules.specs.Next.{nextAt, answerAt}
 use Rattle.electric_rules.specs.Refusals.{rowsAfter}
 
-unfoldable pub storedOr12 : ElectricBook → ElectricBook → Answer → Posted
-storedOr12 b next answer = byTable (rowsAfter next) (posted answer next) (refused b)
+unfoldable pub storedOr12 : ElectricBook → Posted → Posted
+storedOr12 b next = byTable (rowsAfter (next .book)) next (refused b)
 
--- of a posting of that kind
-abbrev pub postedAt : Kind → ElectricBook → Posting → Posted
-postedAt kind b p = storedOr12 b (nextAt kind b p) (answerAt kind b p)
+-- what the rules have a posting of the kind answered, and the next book
+abbrev pub effectAt : Kind → ElectricBook → Posting → Posted
+effectAt kind b p = posted (answerAt kind b p) (nextAt kind b p)
+
+-- stored or refused alike: an effect need not be the rules' own where both would be refused
+abbrev pub StoredAs : ElectricBook → Posted → Posted → Type 0
+StoredAs b next effect = storedOr12 b next ≡ storedOr12 b effect

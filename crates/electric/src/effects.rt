@@ -1,4 +1,4 @@
-// What a posting does that no row has refused so far, one call a kind: the next book, unless a value in it would be out of limits.
+// What a posting does that no row has refused so far, one call a kind: the answer and the next book, whose limits are still to be tested.
 use amounts::Cents;
 use electric_rules::ElectricBook;
 use electric_rules::Kwh;
@@ -9,31 +9,12 @@ use postings::Answer;
 use postings::Book;
 use postings::Posting;
 ghost use mathlib.Core.Path.{_≡_};
-ghost use Rattle.postings.specs.Kinds.{cost, sales, bill, settle, monthEnd, adjust};
+ghost use mathlib.Core.Bool.{false};
+ghost use Rattle.postings.specs.Kinds.{cost, sales, bill, settle, monthEnd, adjust, kindOf, unknownKind};
 ghost use Rattle.postings.specs.Held.{Held};
-ghost use Rattle.electric_rules.specs.Book.{refused};
 ghost use Rattle.electric_rules.specs.Next.{costAdded, salesAdded};
 ghost use Rattle.electric_rules.specs.Ranges.{PeriodWithin, BookWithin};
-ghost use Rattle.electric.specs.Stored.{storedOr12, postedAt};
-
-pub(crate) fn refuse(book: ElectricBook, number: u8) -> Posted
-    ensures { λ r. ⌜ r ≡ refused book number ⌝ }
-{
-    Posted {
-        answer: Answer::Refused(number),
-        book,
-    }
-}
-
-// Refusal 12, or the next book.
-fn store(book: ElectricBook, next: ElectricBook, answer: Answer) -> Posted
-    ensures { λ r. ⌜ r ≡ storedOr12 book next answer ⌝ }
-{
-    if electric_refusals::limits::in_limits(next) {
-        return Posted { answer, book: next };
-    }
-    refuse(book, 12)
-}
+ghost use Rattle.electric.specs.Stored.{effectAt, StoredAs};
 
 fn cost_added(period: Period, posting: Posting) -> Period
     requires { ⌜ PeriodWithin period × Held Book.Electric cost posting ⌝ }
@@ -45,13 +26,16 @@ fn cost_added(period: Period, posting: Posting) -> Period
     next
 }
 
-pub(crate) fn post_cost(book: ElectricBook, posting: Posting) -> Posted
+fn post_cost(book: ElectricBook, posting: Posting) -> Posted
     requires { ⌜ BookWithin book × Held Book.Electric cost posting ⌝ }
-    ensures { λ r. ⌜ r ≡ postedAt cost book posting ⌝ }
+    ensures { λ r. ⌜ r ≡ effectAt cost book posting ⌝ }
 {
     let mut next = book;
     next.period = cost_added(book.period, posting);
-    store(book, next, Answer::Done)
+    Posted {
+        answer: Answer::Done,
+        book: next,
+    }
 }
 
 fn sales_added(period: Period, posting: Posting) -> Period
@@ -67,40 +51,48 @@ fn sales_added(period: Period, posting: Posting) -> Period
     next
 }
 
-pub(crate) fn post_sales(book: ElectricBook, posting: Posting) -> Posted
+fn post_sales(book: ElectricBook, posting: Posting) -> Posted
     requires { ⌜ BookWithin book × Held Book.Electric sales posting ⌝ }
-    ensures { λ r. ⌜ r ≡ postedAt sales book posting ⌝ }
+    ensures { λ r. ⌜ r ≡ effectAt sales book posting ⌝ }
 {
     let mut next = book;
     next.period = sales_added(book.period, posting);
-    store(book, next, Answer::Done)
+    Posted {
+        answer: Answer::Done,
+        book: next,
+    }
 }
 
-pub(crate) fn post_bill(book: ElectricBook, posting: Posting) -> Posted
+fn post_bill(book: ElectricBook, posting: Posting) -> Posted
     requires { ⌜ BookWithin book × Held Book.Electric bill posting ⌝ }
-    ensures { λ r. ⌜ r ≡ postedAt bill book posting ⌝ }
+    ensures { λ r. ⌜ r ≡ effectAt bill book posting ⌝ }
 {
     let level = crate::levels::level_at(book, posting);
     let line = crate::levels::line(level, posting);
     let billed = crate::levels::billed(level, posting, line);
     let next = crate::levels::with_level_at(book, posting, billed);
-    store(book, next, Answer::Line(line))
+    Posted {
+        answer: Answer::Line(line),
+        book: next,
+    }
 }
 
-pub(crate) fn post_adjustment(book: ElectricBook, posting: Posting) -> Posted
+fn post_adjustment(book: ElectricBook, posting: Posting) -> Posted
     requires { ⌜ BookWithin book × Held Book.Electric adjust posting ⌝ }
-    ensures { λ r. ⌜ r ≡ postedAt adjust book posting ⌝ }
+    ensures { λ r. ⌜ r ≡ effectAt adjust book posting ⌝ }
 {
     let level = crate::levels::level_at(book, posting);
     let adjusted = crate::levels::adjusted(level, posting);
     let next = crate::levels::with_level_at(book, posting, adjusted);
-    store(book, next, Answer::Done)
+    Posted {
+        answer: Answer::Done,
+        book: next,
+    }
 }
 
-// Interest first, then the handover.
-pub(crate) fn post_month_end(book: ElectricBook, posting: Posting) -> Posted
+fn post_month_end(book: ElectricBook, posting: Posting) -> Posted
     requires { ⌜ BookWithin book × Held Book.Electric monthEnd posting ⌝ }
-    ensures { λ r. ⌜ r ≡ postedAt monthEnd book posting ⌝ }
+    ensures { λ r. ⌜ r ≡ effectAt monthEnd book posting ⌝ }
 {
     let secondary = crate::levels::interest(book.secondary, posting);
     let primary = crate::levels::interest(book.primary, posting);
@@ -110,18 +102,47 @@ pub(crate) fn post_month_end(book: ElectricBook, posting: Posting) -> Posted
     next.settled = false;
     next.secondary = crate::levels::ended(book.secondary, posting, secondary, run);
     next.primary = crate::levels::ended(book.primary, posting, primary, run);
-    store(book, next, Answer::Interest(secondary, primary))
+    Posted {
+        answer: Answer::Interest(secondary, primary),
+        book: next,
+    }
 }
 
-// A factor out of limits would not be stored, so it is refused before it is made points.
-pub(crate) fn post_settlement(book: ElectricBook, posting: Posting) -> Posted
+// A factor that points have no room for is filed as one out of limits, so the book is stored or refused as the rules' own would be.
+fn post_settlement(book: ElectricBook, posting: Posting) -> Posted
     requires { ⌜ BookWithin book × Held Book.Electric settle posting ⌝ }
-    ensures { λ r. ⌜ r ≡ postedAt settle book posting ⌝ }
+    ensures { λ r. ⌜ StoredAs book r (effectAt settle book posting) ⌝ }
 {
-    let filings = crate::filing::filings_of(book, posting);
-    if !crate::filing::can_be_stored(filings) {
-        return refuse(book, 12);
+    let rates = crate::settlement::rates_of(book.division);
+    let shares = crate::settlement::shares_of(rates, book.period);
+    let on_secondary = crate::filing::filing_of(
+        shares.secondary,
+        book.secondary,
+        Kwh(posting.first),
+    );
+    let on_primary = crate::filing::filing_of(shares.primary, book.primary, Kwh(posting.second));
+    let secondary = crate::filing::filed_level(on_secondary, book.secondary);
+    let primary = crate::filing::filed_level(on_primary, book.primary);
+    let next = crate::filing::settled_with(book, shares.remainder, secondary, primary);
+    let secondary_factor = on_secondary.factor;
+    let primary_factor = on_primary.factor;
+    Posted {
+        answer: Answer::FiledLevels(secondary_factor, primary_factor),
+        book: next,
     }
-    let next = crate::filing::settled(book, filings);
-    store(book, next, crate::filing::answer(filings))
+}
+
+pub(crate) fn effect(book: ElectricBook, posting: Posting) -> Posted
+    requires { ⌜ BookWithin book × Held Book.Electric (kindOf (posting .kind)) posting × (unknownKind Book.Electric (posting .kind) ≡ false) ⌝ }
+    ensures { λ r. ⌜ StoredAs book r (effectAt (kindOf (posting .kind)) book posting) ⌝ }
+{
+    let kind = posting.kind;
+    match kind {
+        1 => post_cost(book, posting),
+        2 => post_sales(book, posting),
+        3 => post_bill(book, posting),
+        4 => post_settlement(book, posting),
+        5 => post_month_end(book, posting),
+        _ => post_adjustment(book, posting),
+    }
 }

@@ -1,15 +1,12 @@
--- `electric::post` gives what a posting gives: a row before the next book refuses, or the kind's call decides. Assumes nothing.
-use mathlib.Core.Path.{_≡_, sym, ap, _∙_, subst}
-use Prim.Native.Nat.{ℕ}
+-- `electric::post` gives what a posting gives: a row before the next book refuses, or the limits of the next book decide. Assumes nothing.
+use mathlib.Core.Path.{_≡_, sym, _∙_}
+use borrow.Author.Tests.{not-true, not-false}
 use borrow.Author.Needs.{needs}
-use Rattle.postings.specs.Kinds.{kindOf}
-use Rattle.postings.specs.Held.{Held}
-use Rattle.postings.specs.declared.Book.the-variants.{Electric}
-use Rattle.electric_rules.specs.Ranges.{BookWithin}
 use Rattle.electric_rules.specs.Refusals.{postOf}
-use Rattle.electric.proofs.Ready.{refused-is, known, book-ready, posting-ready, posted-is, is-adjustment}
+use Rattle.electric.proofs.LastRow.{in-limits-stored, out-of-limits-12}
+use Rattle.electric.proofs.Ready.{refused-is, known, book-ready, posting-ready, stored-is}
 use Rattle.electric.proofs.post.Statement.{statement}
-use Rattle.electric.specs.Stored.{postedAt}
+use Rattle.electric.specs.Stored.{storedOr12}
 use Rattle.electric.proofs.post.Tie as tie
 
 refusal-before-requires : tie.Need-refusal-before-requires
@@ -21,70 +18,28 @@ refuse-requires c κs = search needs
 returns : tie.Need-returns
 returns c = c .refuse .ensures ∙ refused-is (c .before .before .before .args .book) (c .before .before .before .args .posting) (c .before .before .refusal-before .ensures) (c .before .if1 .taken)
 
--- what is known where no row before the next book holds
+effect-requires : tie.Need-effect-requires
+effect-requires c κs = let b = c .before .before .args .book in
+    let p = c .before .before .args .posting in
+    let e = c .before .refusal-before .ensures in
+    (book-ready b p e (c .if1 .left), posting-ready b p e (c .if1 .left), known b p e (c .if1 .left))
 
-limited : (c : tie.Else1) → BookWithin (c .before .before .args .book)
-limited c = book-ready (c .before .before .args .book) (c .before .before .args .posting) (c .before .refusal-before .ensures) (c .if1 .left)
+given : (c : tie.After-effect) → let s = c .before .before .before .args in storedOr12 (s .book) (c .effect .result) ≡ postOf (s .book) (s .posting)
+given c =
+    let s = c .before .before .before .args in
+    c .effect .ensures ∙ stored-is (s .book) (s .posting) (c .before .before .refusal-before .ensures) (c .before .if1 .left)
 
-ranged : (c : tie.Else1) → let p = c .before .before .args .posting in Held Electric (kindOf (p .kind)) p
-ranged c = posting-ready (c .before .before .args .book) (c .before .before .args .posting) (c .before .refusal-before .ensures) (c .if1 .left)
+in-limits-requires : tie.Need-in-limits-requires
+in-limits-requires c κs = search needs
 
-stored : (c : tie.Else1) → let s = c .before .before .args in postedAt (kindOf (s .posting .kind)) (s .book) (s .posting) ≡ postOf (s .book) (s .posting)
-stored c = posted-is (c .before .before .args .book) (c .before .before .args .posting) (c .before .refusal-before .ensures) (c .if1 .left)
-
-six : (c : tie.At-match-rest) → c .before .before .before .args .posting .kind ≡ 6
-six c =
-    let r = c .match .rest in
-    is-adjustment _ (known (c .before .before .before .args .book) (c .before .before .before .args .posting) (c .before .before .refusal-before .ensures) (c .before .if1 .left))
-    (r .0 .0 .0 .0 .1) (r .0 .0 .0 .1) (r .0 .0 .1) (r .0 .1) (r .1)
-
-post-cost-requires : tie.Need-post-cost-requires
-unfolding kindOf
-post-cost-requires c κs = (limited (c .before), subst (λ (n : ℕ). Held Electric (kindOf n) (c .before .before .before .args .posting)) (c .match .keys1) (ranged (c .before)))
-
-post-sales-requires : tie.Need-post-sales-requires
-unfolding kindOf
-post-sales-requires c κs = (limited (c .before), subst (λ (n : ℕ). Held Electric (kindOf n) (c .before .before .before .args .posting)) (c .match .keys2) (ranged (c .before)))
-
-post-bill-requires : tie.Need-post-bill-requires
-unfolding kindOf
-post-bill-requires c κs = (limited (c .before), subst (λ (n : ℕ). Held Electric (kindOf n) (c .before .before .before .args .posting)) (c .match .keys3) (ranged (c .before)))
-
-post-settlement-requires : tie.Need-post-settlement-requires
-unfolding kindOf
-post-settlement-requires c κs = (limited (c .before), subst (λ (n : ℕ). Held Electric (kindOf n) (c .before .before .before .args .posting)) (c .match .keys4) (ranged (c .before)))
-
-post-month-end-requires : tie.Need-post-month-end-requires
-unfolding kindOf
-post-month-end-requires c κs = (limited (c .before), subst (λ (n : ℕ). Held Electric (kindOf n) (c .before .before .before .args .posting)) (c .match .keys5) (ranged (c .before)))
-
-post-adjustment-requires : tie.Need-post-adjustment-requires
-unfolding kindOf
-post-adjustment-requires c κs = (limited (c .before), subst (λ (n : ℕ). Held Electric (kindOf n) (c .before .before .before .args .posting)) (six c) (ranged (c .before)))
+refuse-requires-2 : tie.Need-refuse-requires-2
+refuse-requires-2 c κs = search needs
 
 returns-2 : tie.Need-returns-2
-unfolding kindOf
-returns-2 c = c .post-cost .ensures ∙ ap (λ (n : ℕ). postedAt (kindOf n) (c .before .before .before .before .args .book) (c .before .before .before .before .args .posting)) (sym (c .before .match .keys1)) ∙ stored (c .before .before)
+returns-2 c = c .refuse2 .ensures ∙ sym (out-of-limits-12 (c .before .before .before .before .before .before .args .book) (c .before .before .before .effect .result) (sym (c .before .before .in-limits .ensures) ∙ not-true _ (c .before .if2 .taken))) ∙ given (c .before .before .before)
 
 returns-3 : tie.Need-returns-3
-unfolding kindOf
-returns-3 c = c .post-sales .ensures ∙ ap (λ (n : ℕ). postedAt (kindOf n) (c .before .before .before .before .args .book) (c .before .before .before .before .args .posting)) (sym (c .before .match .keys2)) ∙ stored (c .before .before)
-
-returns-4 : tie.Need-returns-4
-unfolding kindOf
-returns-4 c = c .post-bill .ensures ∙ ap (λ (n : ℕ). postedAt (kindOf n) (c .before .before .before .before .args .book) (c .before .before .before .before .args .posting)) (sym (c .before .match .keys3)) ∙ stored (c .before .before)
-
-returns-5 : tie.Need-returns-5
-unfolding kindOf
-returns-5 c = c .post-settlement .ensures ∙ ap (λ (n : ℕ). postedAt (kindOf n) (c .before .before .before .before .args .book) (c .before .before .before .before .args .posting)) (sym (c .before .match .keys4)) ∙ stored (c .before .before)
-
-returns-6 : tie.Need-returns-6
-unfolding kindOf
-returns-6 c = c .post-month-end .ensures ∙ ap (λ (n : ℕ). postedAt (kindOf n) (c .before .before .before .before .args .book) (c .before .before .before .before .args .posting)) (sym (c .before .match .keys5)) ∙ stored (c .before .before)
-
-returns-7 : tie.Need-returns-7
-unfolding kindOf
-returns-7 c = c .post-adjustment .ensures ∙ ap (λ (n : ℕ). postedAt (kindOf n) (c .before .before .before .before .args .book) (c .before .before .before .before .args .posting)) (sym (six (c .before))) ∙ stored (c .before .before)
+returns-3 c = sym (in-limits-stored (c .before .before .before .before .before .args .book) (c .before .before .effect .result) (sym (c .before .in-limits .ensures) ∙ not-false _ (c .if2 .left))) ∙ given (c .before .before)
 
 pub post-spec : {M : Type 1} → statement M
 post-spec =
@@ -93,15 +48,8 @@ post-spec =
     refusal-before-requires
     refuse-requires
     returns
-    post-cost-requires
-    post-sales-requires
-    post-bill-requires
-    post-settlement-requires
-    post-month-end-requires
-    post-adjustment-requires
+    effect-requires
+    in-limits-requires
+    refuse-requires-2
     returns-2
-    returns-3
-    returns-4
-    returns-5
-    returns-6
-    returns-7)
+    returns-3)

@@ -1,12 +1,12 @@
--- `effects::post_month_end` stores the book at the month's end, and answers the month's interest. Assumes nothing.
+-- `effects::post_month_end` is the effect of a month end: the month's interest, and both levels at its end. Assumes nothing.
 use mathlib.Core.Path.{ap, _∙_}
 use Prim.Native.Nat.{ℕ}
 use borrow.Author.Needs.{needs}
 use Rattle.postings.specs.declared.Answer.the-variants.{Interest}
+use Rattle.electric_rules.specs.Book.{posted}
 use Rattle.electric_rules.specs.Levels.{accruedLevel, handedOver}
 use Rattle.electric_rules.specs.Next.{endedWith, monthEnded, nextAt, interestAnswer, answerAt}
 use Rattle.electric.proofs.effects.post_month_end.Statement.{statement}
-use Rattle.electric.specs.Stored.{storedOr12}
 use Rattle.electric.proofs.effects.post_month_end.Tie as tie
 
 interest-requires : tie.Need-interest-requires
@@ -27,18 +27,14 @@ ended-requires c κs = search needs
 ended-requires-2 : tie.Need-ended-requires-2
 ended-requires-2 c κs = search needs
 
-store-requires : tie.Need-store-requires
-store-requires c κs = search needs
-
 returns : tie.Need-returns
 unfolding nextAt answerAt monthEnded interestAnswer
-returns c = let b = c .before .before .before .before .before .before .before .args .book in
-    let r = c .before .before .before .before .before .before .before .args .posting .first in
-    let run = c .before .before .before .before .entering .ensures in
-    let secondary = c .before .before .ended .ensures ∙ ap (λ (n : ℕ). handedOver n (accruedLevel r (b .secondary))) run in
-    let primary = c .before .ended2 .ensures ∙ ap (λ (n : ℕ). handedOver n (accruedLevel r (b .primary))) run in
-    c .store .ensures
-    ∙ (λ i. storedOr12 b (endedWith b (c .before .before .before .month-after .ensures i) (secondary i) (primary i)) (Interest (c .before .before .before .before .before .before .interest .ensures i) (c .before .before .before .before .before .interest2 .ensures i)))
+returns c = let b = c .before .before .before .before .before .before .args .book in
+    let r = c .before .before .before .before .before .before .args .posting .first in
+    let run = c .before .before .before .entering .ensures in
+    let secondary = c .before .ended .ensures ∙ ap (λ (n : ℕ). handedOver n (accruedLevel r (b .secondary))) run in
+    let primary = c .ended2 .ensures ∙ ap (λ (n : ℕ). handedOver n (accruedLevel r (b .primary))) run in
+    λ i. posted (Interest (c .before .before .before .before .before .interest .ensures i) (c .before .before .before .before .interest2 .ensures i)) (endedWith b (c .before .before .month-after .ensures i) (secondary i) (primary i))
 
 pub post-month-end-spec : {M : Type 1} → statement M
 post-month-end-spec =
@@ -50,5 +46,4 @@ post-month-end-spec =
     month-after-requires
     ended-requires
     ended-requires-2
-    store-requires
     returns)
