@@ -5,14 +5,15 @@ use mathlib.Core.Bool.{Bool, true, false, cond, not, true≢false}
 use Prim.Native.Nat.{ℕ}
 use lib.Dec.{T}
 use lib.IntN.{ℤ, pos, _+ℤ_, _*ℤ_}
+use Rattle.refusals.specs.Laws.{by-table}
 use Rattle.postings.specs.Kinds.{Kind, cost, sales, bill, settle, monthEnd, adjust, reconcile, unknown, kindOf, tableOf, isNone, unknownKind}
 use Rattle.postings.specs.declared.Book.the-variants.{Electric}
 use Rattle.postings.specs.declared.Posting.{Posting}
 use Rattle.postings.specs.declared.Answer.the-variants.{Done}
-use Rattle.riders.specs.Histories.{accepted, lineAnswered, kept-after}
+use Rattle.riders.specs.Histories.{wasAccepted, lineAnswered, kept-after}
 use Rattle.electric_rules.proofs.Waiting.{clear, clear-to-settle, turns, all-turn}
 use Rattle.electric_rules.proofs.Shares.{Shared, fresh-shared, settled-shared, shared-near}
-use Rattle.electric_rules.proofs.Accepted.{by-table, settle-allowed, month-to, month-settled}
+use Rattle.electric_rules.proofs.Accepted.{settle-allowed, month-to, month-settled}
 use Rattle.electric_rules.proofs.LevelSteps.{LevelKept, billed-keeps, adjusted-keeps, settled-keeps, ended-keeps}
 use Rattle.electric_rules.specs.declared.Rates.{Rates}
 use Rattle.electric_rules.specs.declared.Period.{Period}
@@ -48,7 +49,7 @@ record Kept (rates : Rates) (b : ElectricBook) (t : Tally) : Type 0 where
 module _ (rates : Rates) (b : ElectricBook) (t : Tally) (p : Posting) (k : Kept rates b t) where
   -- the tally takes from an answer that it was accepted, and the line
   abbrev Keeps : Kind → Type 0
-  Keeps kind = Kept rates (nextAt kind b p) (cond (accepted (answerAt kind b p)) (countAt kind rates t p (lineAnswered (answerAt kind b p))) t)
+  Keeps kind = Kept rates (nextAt kind b p) (cond (wasAccepted (answerAt kind b p)) (countAt kind rates t p (lineAnswered (answerAt kind b p))) t)
 
   -- cost and sales change the period alone, and not its remainder
   period-keeps :
@@ -129,15 +130,15 @@ module _ (rates : Rates) (b : ElectricBook) (t : Tally) (p : Posting) (k : Kept 
         shares = k .shares;
       }
 
-  by-kind : (kind : Kind) → isNone (tableOf Electric kind) ≡ false → not (inLimits b) ≡ false → forbidden kind b ≡ false → Keeps kind
-  by-kind cost known limits allowed = cost-keeps
-  by-kind sales known limits allowed = sales-keeps
-  by-kind bill known limits allowed = bill-keeps
-  by-kind settle known limits allowed = settle-keeps allowed
-  by-kind monthEnd known limits allowed = month-keeps limits allowed
-  by-kind adjust known limits allowed = adjust-keeps
-  by-kind reconcile known limits allowed = absurd (true≢false known)
-  by-kind unknown known limits allowed = absurd (true≢false known)
+  kind-keeps : (kind : Kind) → isNone (tableOf Electric kind) ≡ false → not (inLimits b) ≡ false → forbidden kind b ≡ false → Keeps kind
+  kind-keeps cost known limits allowed = cost-keeps
+  kind-keeps sales known limits allowed = sales-keeps
+  kind-keeps bill known limits allowed = bill-keeps
+  kind-keeps settle known limits allowed = settle-keeps allowed
+  kind-keeps monthEnd known limits allowed = month-keeps limits allowed
+  kind-keeps adjust known limits allowed = adjust-keeps
+  kind-keeps reconcile known limits allowed = absurd (true≢false known)
+  kind-keeps unknown known limits allowed = absurd (true≢false known)
 
 -- ---- a posting, accepted or refused
 
@@ -145,7 +146,7 @@ posting-keeps : (rates : Rates) (b : ElectricBook) (t : Tally) (p : Posting) →
 unfolding postOf countOf unknownKind
 posting-keeps rates b t p k =
     by-table (λ (r : Posted). Kept rates (r .book) (countOf rates t p (r .answer))) _ _ _ tt
-    (λ none. by-kind rates b t p k (kindOf (p .kind)) (none .0) (none .1 .1 .0) (none .1 .1 .1 .1 .0))
+    (λ none. kind-keeps rates b t p k (kindOf (p .kind)) (none .0) (none .1 .1 .0) (none .1 .1 .1 .1 .0))
     (λ n. k)
 
 -- ---- a list of postings to an opened book
@@ -167,7 +168,7 @@ unfolding openedOf
 opened-kept division =
     by-table (λ (r : Posted). r .answer ≡ Done → Kept (ratesOf division) (r .book) freshTally) _ (posted Done (freshOf division)) (refused (freshOf 0)) tt
     (λ none done. fresh-kept division)
-    (λ n done. absurd (true≢false (sym (ap accepted done))))
+    (λ n done. absurd (true≢false (sym (ap wasAccepted done))))
 
 balances : (rates : Rates) (b : ElectricBook) (t : Tally) → Kept rates b t → Balances rates b t
 balances rates b t k =

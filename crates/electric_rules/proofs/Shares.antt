@@ -1,11 +1,12 @@
 -- What settlements keep in the tally: both levels' shares make the period's, and the remainder is what rounding left, so shares and
 -- remainder together are the customers' percentage of the variances, to the last hundred-thousandth of a cent. Assumes nothing.
 use mathlib.Core.Path.{_≡_}
+use native.Mathlib.Omega.{arith}
 use lib.IntN.{pos, _+ℤ_, _-ℤ_, _*ℤ_}
 use Rattle.ints.specs.Range.{Within}
-use Rattle.ints.specs.Order.{signed, sum, diff, prod}
+use Rattle.ints.specs.Order.{signed, sum, diff}
 use Rattle.ints.specs.Ring.{solve, eq-by, _:+_, _:-_, _:*_, _:=_, #}
-use Rattle.rounding.specs.Laws.{round-near}
+use Rattle.rounding.specs.Laws.{round-leaves}
 use Rattle.electric_rules.specs.declared.Rates.{Rates}
 use Rattle.electric_rules.specs.declared.Period.{Period}
 use Rattle.electric_rules.specs.Settlement.{varianceOf, shareableOf, shareOf, remainderAfter, secondaryShare, primaryShare}
@@ -23,9 +24,7 @@ fresh-shared rates = (solve 1 (λ n. # 0 := n :* # 0) tt (rates .percentage), om
 -- rounding leaves at most half of its divisor
 remainder-small : (rates : Rates) (p : Period) → Within 50000 (remainderAfter rates p)
 unfolding remainderAfter shareOf
-remainder-small rates p =
-    let a = shareableOf rates p in
-    omega (signed, round-near a (pos 100000) (omega signed), prod (pos 2) (remainderAfter rates p))
+remainder-small rates p = round-leaves 50000 (shareableOf rates p) (omega arith)
 
 pub settled-shared : (rates : Rates) (t : Tally) → Shared rates t → Shared rates (settleCounted rates t)
 unfolding settleCounted shareCounted primaryShare remainderAfter shareableOf

@@ -81,11 +81,16 @@ accruedLevel rate l =
       second = l .second;
     }
 
--- the run that enters, 1 or 2, adds its d to C and becomes pending; Q and q become 0
+-- run 1 adds its d to C and becomes (q, Q); Q and q become 0
+abbrev pub intoFirst : Level → Level
+intoFirst l =
+    record { carried = cents (l .carried .0 +ℤ l .first .due .0); interest = l .interest; pending = noRun; first = l .pending; second = l .second }
+
+-- run 2 does
+abbrev pub intoSecond : Level → Level
+intoSecond l =
+    record { carried = cents (l .carried .0 +ℤ l .second .due .0); interest = l .interest; pending = noRun; first = l .first; second = l .pending }
+
+-- the run that enters, 1, 2 or none
 unfoldable pub handedOver : ℕ → Level → Level
-handedOver entering l =
-    cond (eqb entering 1)
-    (record { carried = cents (l .carried .0 +ℤ l .first .due .0); interest = l .interest; pending = noRun; first = l .pending; second = l .second })
-    (cond (eqb entering 2)
-    (record { carried = cents (l .carried .0 +ℤ l .second .due .0); interest = l .interest; pending = noRun; first = l .first; second = l .pending })
-    l)
+handedOver entering l = cond (eqb entering 1) (intoFirst l) (cond (eqb entering 2) (intoSecond l) l)

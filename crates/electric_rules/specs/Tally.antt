@@ -5,7 +5,7 @@ use lib.IntN.{ℤ, pos, _+ℤ_, _-ℤ_}
 use Rattle.postings.specs.Kinds.{Kind, cost, sales, bill, settle, monthEnd, adjust, reconcile, unknown, kindOf}
 use Rattle.postings.specs.declared.Posting.{Posting}
 use Rattle.postings.specs.declared.Answer.{Answer}
-use Rattle.riders.specs.Histories.{accepted, lineAnswered}
+use Rattle.riders.specs.Histories.{wasAccepted, lineAnswered}
 use Rattle.electric_rules.specs.declared.Rates.{Rates}
 use Rattle.electric_rules.specs.declared.Period.{Period}
 use Rattle.electric_rules.specs.Book.{salesOf, periodOf, noPeriod}
@@ -111,4 +111,4 @@ countAt unknown rates t p line = t
 
 -- a refused posting changes nothing
 unfoldable pub countOf : Rates → Tally → Posting → Answer → Tally
-countOf rates t p answer = cond (accepted answer) (countAt (kindOf (p .kind)) rates t p (lineAnswered answer)) t
+countOf rates t p answer = cond (wasAccepted answer) (countAt (kindOf (p .kind)) rates t p (lineAnswered answer)) t

@@ -113,3 +113,14 @@ module _ {A : Type 0} (rows : List Row) (asked : A) (refused : ℕ → A) where
     gives-later e =
         let parts : refusalBy (rows ++ more) ≡ refusalBy more = in-parts rows more positive ∙ simp e in
         ap (λ (n : ℕ). cond (eqb n 0) asked (refused n)) parts
+
+-- what is so of what was asked, where no row holds, and of every refusal, is so of what a call gives
+pub by-table :
+    {A : Type 0} (P : A → Type 0) (rows : List Row) (asked : A) (refused : ℕ → A) → T (numbered rows) →
+    (NoneHolds rows → P asked) → ((n : ℕ) → P (refused n)) → P (byTable rows asked refused)
+unfolding byTable
+by-table P rows asked refused h accepts refuses = go (eqb (refusalBy rows) 0) refl
+  where
+    go : (t : Bool) → eqb (refusalBy rows) 0 ≡ t → P (cond t asked (refused (refusalBy rows)))
+    go true e = accepts (none-holds rows h (eqb-true (refusalBy rows) 0 e))
+    go false e = refuses (refusalBy rows)

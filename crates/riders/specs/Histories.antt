@@ -9,13 +9,13 @@ use Rattle.postings.specs.declared.Answer.{Answer}
 use Rattle.postings.specs.declared.Answer.the-variants.{Line, FiledLevels, Filed, Interest, Done, Refused}
 
 -- whether a posting was accepted
-abbrev pub accepted : Answer → Bool
-accepted (Line cents) = true
-accepted (FiledLevels secondary primary) = true
-accepted (Filed points) = true
-accepted (Interest secondary primary) = true
-accepted Done = true
-accepted (Refused n) = false
+abbrev pub wasAccepted : Answer → Bool
+wasAccepted (Line cents) = true
+wasAccepted (FiledLevels secondary primary) = true
+wasAccepted (Filed points) = true
+wasAccepted (Interest secondary primary) = true
+wasAccepted Done = true
+wasAccepted (Refused n) = false
 
 -- the line answered to a bill
 abbrev pub lineAnswered : Answer → ℤ

@@ -49,6 +49,12 @@ round-near a (pos b) h =
     rw (round-above a b k) (sign-near a b (nearestOf (natAbs a) b) (nearest-near (natAbs a) b k))
 round-near a (negsuc b) h = absurd (h .lt)
 
+-- what rounding leaves is at most half of an even divisor
+pub round-leaves : (half : ℕ) (a : ℤ) → 0 < half → Between (negℤ (pos half)) (pos half) (a -ℤ pos (2 * half) *ℤ round a (pos (2 * half)))
+round-leaves half a h =
+    let left = a -ℤ pos (2 * half) *ℤ round a (pos (2 * half)) in
+    omega (signed, round-near a (pos (2 * half)) (omega signed), prod (pos 2) left, minus (pos half), minus (pos (2 * half)))
+
 -- ---- round(−a/b) = −round(a/b)
 
 sign-neg : (a : ℤ) (b : ℕ) → 0 < b → withSign (negℤ a) (nearestOf (natAbs (negℤ a)) b) ≡ negℤ (withSign a (nearestOf (natAbs a) b))
