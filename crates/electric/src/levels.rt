@@ -15,6 +15,12 @@ ghost use Rattle.electric_rules.specs.Levels.{factorsOf, levelLine, dueLess, bi
 ghost use Rattle.electric_rules.specs.Next.{levelAt, withLevelAt};
 ghost use Rattle.electric_rules.specs.Ranges.{RunWithin, LevelWithin};
 
+// Points to a cent, since a point is $0.0001.
+const POINTS: i64 = 100;
+
+// Millionths of a year's rate to a month's.
+const MONTHLY: i64 = 12_000_000;
+
 // The level that a bill or an adjustment names.
 pub(crate) fn level_at(book: ElectricBook, posting: Posting) -> Level
     ensures { λ r. ⌜ r ≡ levelAt (posting .first) book ⌝ }
@@ -45,7 +51,7 @@ pub(crate) fn line(level: Level, posting: Posting) -> Cents
 {
     Cents(rounding::round_div(
         posting.second * (level.first.factor.0 as i64 + level.second.factor.0 as i64),
-        100,
+        POINTS,
     ))
 }
 
@@ -54,7 +60,7 @@ fn first_part(level: Level, posting: Posting) -> Cents
     requires { ⌜ LevelWithin level × Held Book.Electric bill posting ⌝ }
     ensures { λ r. ⌜ r ≡ cents (partOf (posting .second) (factorsOf level) 0) ⌝ }
 {
-    Cents(rounding::round_div(posting.second * (level.first.factor.0 as i64), 100))
+    Cents(rounding::round_div(posting.second * (level.first.factor.0 as i64), POINTS))
 }
 
 // Run 2's: the line less that.
@@ -106,7 +112,7 @@ pub(crate) fn interest(level: Level, posting: Posting) -> Cents
     Cents(rounding::round_div(
         posting.first
             * (level.carried.0 + level.pending.due.0 + level.first.due.0 + level.second.due.0),
-        12_000_000,
+        MONTHLY,
     ))
 }
 

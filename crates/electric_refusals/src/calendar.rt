@@ -1,4 +1,4 @@
-// The year of the electric book. No other code names a month.
+// The year of the electric book. No other code says which months settle, which run a month's end lets enter, or which month follows.
 ghost use mathlib.Core.Path.{_≡_};
 ghost use Rattle.electric_rules.specs.Calendar.{settles, entering, monthAfter};
 

@@ -1,4 +1,5 @@
--- The year of the electric book (01, Electric book, Settle and Month end). No other definition names a month.
+-- The year of the electric book (01, Electric book, Settle and Month end). No other definition says which months settle, which run a month's
+-- end lets enter, or which month follows.
 use mathlib.Core.Bool.{Bool, cond, _||_}
 use Prim.Native.Nat.{ℕ, _+_}
 use lib.Dec.{eqb, ltb}

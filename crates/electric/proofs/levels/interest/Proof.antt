@@ -20,7 +20,7 @@ add-round-div-3 c = fits64 (search bounds depth 30) tt
 mul-round-div : tie.Need-mul-round-div
 mul-round-div c = let l = c .before .before .before .before .before .before .before .before .pre .0 in
     let r = c .before .before .before .before .before .before .before .before .pre .1 .0 in
-    fits64 (search (bounds, r, l .carried, l .pending .due, l .first .due, l .second .due) depth 30) tt
+    fits64 (search (bounds, r, l .carried, l .interest, l .pending .due, l .first .due, l .second .due) depth 30) tt
 
 round-div-requires : tie.Need-round-div-requires
 round-div-requires c κs = search needs
@@ -29,7 +29,7 @@ returns : tie.Need-returns
 unfolding interestOn bearingOf
 returns c = let l = c .before .before .before .before .before .before .before .before .before .pre .0 in
     let r = c .before .before .before .before .before .before .before .before .before .pre .1 .0 in
-    same-cents (exact (search (exacts, rounds, e-eq, r, l .carried, l .pending .due, l .first .due, l .second .due) depth 30) tt)
+    same-cents (exact (search (exacts, rounds, e-eq, r, l .carried, l .interest, l .pending .due, l .first .due, l .second .due) depth 30) tt)
 
 pub interest-spec : {M : Type 1} → statement M
 interest-spec =
