@@ -1,7 +1,8 @@
--- That no cent is lost over any list of postings, in the order in which to read it.
+-- That no cent is lost over any list of postings, in the order in which to read it; and of one posting, that a refusal changes nothing.
 pub mod Waiting
 pub mod Held
 pub mod Shares
 pub mod Accepted
 pub mod LevelSteps
 pub mod Conservation
+pub mod Refused
