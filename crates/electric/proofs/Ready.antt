@@ -8,7 +8,7 @@ use borrow.Author.Tests.{not-false}
 use Rattle.refusals.specs.Rows.{refusalBy}
 use Rattle.refusals.specs.Laws.{NoneHolds, none-holds, gives-earlier, gives-later}
 use Rattle.postings.specs.Kinds.{kindOf, tableOf, isNone, unknownKind, by-kind}
-use Rattle.postings.specs.Held.{Held, in-range-held}
+use Rattle.postings.specs.Ranged.{Ranged, none-out-of-range}
 use Rattle.postings.specs.declared.Book.the-variants.{Electric}
 use Rattle.postings.specs.declared.Posting.{Posting}
 use Rattle.electric_rules.specs.declared.ElectricBook.{ElectricBook}
@@ -37,8 +37,8 @@ module _ (b : ElectricBook) (p : Posting) {n : ℕ} (e : n ≡ refusalBy (rowsBe
     pub book-ready : BookWithin b
     book-ready = book-within b (not-false _ (none .1 .1 .0))
 
-    pub posting-ready : Held Electric (kindOf (p .kind)) p
-    posting-ready = in-range-held Electric p (none .1 .1 .1 .0)
+    pub posting-ready : Ranged Electric (kindOf (p .kind)) p
+    posting-ready = none-out-of-range Electric p (none .1 .1 .1 .0)
 
     pub stored-is : storedOr12 b (effectAt (kindOf (p .kind)) b p) ≡ postOf b p
     unfolding postOf storedOr12

@@ -11,13 +11,13 @@ use postings::Posting;
 ghost use mathlib.Core.Path.{_≡_};
 ghost use mathlib.Core.Bool.{false};
 ghost use Rattle.postings.specs.Kinds.{cost, sales, bill, settle, monthEnd, adjust, kindOf, unknownKind};
-ghost use Rattle.postings.specs.Held.{Held};
+ghost use Rattle.postings.specs.Ranged.{Ranged};
 ghost use Rattle.electric_rules.specs.Next.{costAdded, salesAdded};
 ghost use Rattle.electric_rules.specs.Ranges.{PeriodWithin, BookWithin};
 ghost use Rattle.electric.specs.Stored.{effectAt, StoredAs};
 
 fn cost_added(period: Period, posting: Posting) -> Period
-    requires { ⌜ PeriodWithin period × Held Book.Electric cost posting ⌝ }
+    requires { ⌜ PeriodWithin period × Ranged Book.Electric cost posting ⌝ }
     ensures { λ r. ⌜ r ≡ costAdded period posting ⌝ }
 {
     let cost = Cents(period.cost.0 + (posting.first + posting.second + posting.third));
@@ -27,7 +27,7 @@ fn cost_added(period: Period, posting: Posting) -> Period
 }
 
 fn post_cost(book: ElectricBook, posting: Posting) -> Posted
-    requires { ⌜ BookWithin book × Held Book.Electric cost posting ⌝ }
+    requires { ⌜ BookWithin book × Ranged Book.Electric cost posting ⌝ }
     ensures { λ r. ⌜ r ≡ effectAt cost book posting ⌝ }
 {
     let mut next = book;
@@ -39,7 +39,7 @@ fn post_cost(book: ElectricBook, posting: Posting) -> Posted
 }
 
 fn sales_added(period: Period, posting: Posting) -> Period
-    requires { ⌜ PeriodWithin period × Held Book.Electric sales posting ⌝ }
+    requires { ⌜ PeriodWithin period × Ranged Book.Electric sales posting ⌝ }
     ensures { λ r. ⌜ r ≡ salesAdded period posting ⌝ }
 {
     let sales = Sales {
@@ -52,7 +52,7 @@ fn sales_added(period: Period, posting: Posting) -> Period
 }
 
 fn post_sales(book: ElectricBook, posting: Posting) -> Posted
-    requires { ⌜ BookWithin book × Held Book.Electric sales posting ⌝ }
+    requires { ⌜ BookWithin book × Ranged Book.Electric sales posting ⌝ }
     ensures { λ r. ⌜ r ≡ effectAt sales book posting ⌝ }
 {
     let mut next = book;
@@ -64,7 +64,7 @@ fn post_sales(book: ElectricBook, posting: Posting) -> Posted
 }
 
 fn post_bill(book: ElectricBook, posting: Posting) -> Posted
-    requires { ⌜ BookWithin book × Held Book.Electric bill posting ⌝ }
+    requires { ⌜ BookWithin book × Ranged Book.Electric bill posting ⌝ }
     ensures { λ r. ⌜ r ≡ effectAt bill book posting ⌝ }
 {
     let level = crate::levels::level_at(book, posting);
@@ -78,7 +78,7 @@ fn post_bill(book: ElectricBook, posting: Posting) -> Posted
 }
 
 fn post_adjustment(book: ElectricBook, posting: Posting) -> Posted
-    requires { ⌜ BookWithin book × Held Book.Electric adjust posting ⌝ }
+    requires { ⌜ BookWithin book × Ranged Book.Electric adjust posting ⌝ }
     ensures { λ r. ⌜ r ≡ effectAt adjust book posting ⌝ }
 {
     let level = crate::levels::level_at(book, posting);
@@ -91,7 +91,7 @@ fn post_adjustment(book: ElectricBook, posting: Posting) -> Posted
 }
 
 fn post_month_end(book: ElectricBook, posting: Posting) -> Posted
-    requires { ⌜ BookWithin book × Held Book.Electric monthEnd posting ⌝ }
+    requires { ⌜ BookWithin book × Ranged Book.Electric monthEnd posting ⌝ }
     ensures { λ r. ⌜ r ≡ effectAt monthEnd book posting ⌝ }
 {
     let secondary = crate::levels::interest(book.secondary, posting);
@@ -110,7 +110,7 @@ fn post_month_end(book: ElectricBook, posting: Posting) -> Posted
 
 // A factor that points have no room for is filed as one out of limits, so the book is stored or refused as the rules' own would be.
 fn post_settlement(book: ElectricBook, posting: Posting) -> Posted
-    requires { ⌜ BookWithin book × Held Book.Electric settle posting ⌝ }
+    requires { ⌜ BookWithin book × Ranged Book.Electric settle posting ⌝ }
     ensures { λ r. ⌜ StoredAs book r (effectAt settle book posting) ⌝ }
 {
     let rates = crate::settlement::rates_of(book.division);
@@ -133,7 +133,7 @@ fn post_settlement(book: ElectricBook, posting: Posting) -> Posted
 }
 
 pub(crate) fn effect(book: ElectricBook, posting: Posting) -> Posted
-    requires { ⌜ BookWithin book × Held Book.Electric (kindOf (posting .kind)) posting × (unknownKind Book.Electric (posting .kind) ≡ false) ⌝ }
+    requires { ⌜ BookWithin book × Ranged Book.Electric (kindOf (posting .kind)) posting × (unknownKind Book.Electric (posting .kind) ≡ false) ⌝ }
     ensures { λ r. ⌜ StoredAs book r (effectAt (kindOf (posting .kind)) book posting) ⌝ }
 {
     let kind = posting.kind;

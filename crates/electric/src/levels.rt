@@ -9,7 +9,7 @@ ghost use mathlib.Core.Path.{_≡_};
 ghost use Rattle.ints.specs.Range.{Within};
 ghost use Rattle.amounts.specs.Amounts.{cents};
 ghost use Rattle.postings.specs.Kinds.{bill, monthEnd, adjust};
-ghost use Rattle.postings.specs.Held.{Held};
+ghost use Rattle.postings.specs.Ranged.{Ranged};
 ghost use Rattle.riders.specs.Lines.{partOf};
 ghost use Rattle.electric_rules.specs.Levels.{factorsOf, levelLine, dueLess, billedLevel, adjustedLevel, bearingOf, interestOn, accruedLevel, handedOver};
 ghost use Rattle.electric_rules.specs.Next.{levelAt, withLevelAt};
@@ -46,7 +46,7 @@ pub(crate) fn with_level_at(book: ElectricBook, posting: Posting, level: Level) 
 
 // A bill's line.
 pub(crate) fn line(level: Level, posting: Posting) -> Cents
-    requires { ⌜ LevelWithin level × Held Book.Electric bill posting ⌝ }
+    requires { ⌜ LevelWithin level × Ranged Book.Electric bill posting ⌝ }
     ensures { λ r. ⌜ r ≡ cents (levelLine (posting .second) level) ⌝ }
 {
     Cents(rounding::round_div(
@@ -57,7 +57,7 @@ pub(crate) fn line(level: Level, posting: Posting) -> Cents
 
 // Run 1's part of it.
 fn first_part(level: Level, posting: Posting) -> Cents
-    requires { ⌜ LevelWithin level × Held Book.Electric bill posting ⌝ }
+    requires { ⌜ LevelWithin level × Ranged Book.Electric bill posting ⌝ }
     ensures { λ r. ⌜ r ≡ cents (partOf (posting .second) (factorsOf level) 0) ⌝ }
 {
     Cents(rounding::round_div(posting.second * (level.first.factor.0 as i64), POINTS))
@@ -65,7 +65,7 @@ fn first_part(level: Level, posting: Posting) -> Cents
 
 // Run 2's: the line less that.
 fn second_part(level: Level, posting: Posting, line: Cents, first: Cents) -> Cents
-    requires { ⌜ LevelWithin level × Held Book.Electric bill posting × (line ≡ cents (levelLine (posting .second) level)) × (first ≡ cents (partOf (posting .second) (factorsOf level) 0)) ⌝ }
+    requires { ⌜ LevelWithin level × Ranged Book.Electric bill posting × (line ≡ cents (levelLine (posting .second) level)) × (first ≡ cents (partOf (posting .second) (factorsOf level) 0)) ⌝ }
     ensures { λ r. ⌜ r ≡ cents (partOf (posting .second) (factorsOf level) 1) ⌝ }
 {
     Cents(line.0 - first.0)
@@ -83,7 +83,7 @@ fn due_less(part: Cents, run: Run) -> Run
 
 // Each run's due cents fall by its part of the line.
 pub(crate) fn billed(level: Level, posting: Posting, line: Cents) -> Level
-    requires { ⌜ LevelWithin level × Held Book.Electric bill posting × (line ≡ cents (levelLine (posting .second) level)) ⌝ }
+    requires { ⌜ LevelWithin level × Ranged Book.Electric bill posting × (line ≡ cents (levelLine (posting .second) level)) ⌝ }
     ensures { λ r. ⌜ r ≡ billedLevel (posting .second) level ⌝ }
 {
     let first = first_part(level, posting);
@@ -95,7 +95,7 @@ pub(crate) fn billed(level: Level, posting: Posting, line: Cents) -> Level
 }
 
 pub(crate) fn adjusted(level: Level, posting: Posting) -> Level
-    requires { ⌜ LevelWithin level × Held Book.Electric adjust posting ⌝ }
+    requires { ⌜ LevelWithin level × Ranged Book.Electric adjust posting ⌝ }
     ensures { λ r. ⌜ r ≡ adjustedLevel (posting .second) level ⌝ }
 {
     let carried = Cents(level.carried.0 + posting.second);
@@ -106,7 +106,7 @@ pub(crate) fn adjusted(level: Level, posting: Posting) -> Level
 
 // A month's interest, on the balance that bears it.
 pub(crate) fn interest(level: Level, posting: Posting) -> Cents
-    requires { ⌜ LevelWithin level × Held Book.Electric monthEnd posting ⌝ }
+    requires { ⌜ LevelWithin level × Ranged Book.Electric monthEnd posting ⌝ }
     ensures { λ r. ⌜ r ≡ cents (interestOn (posting .first) (bearingOf level)) ⌝ }
 {
     Cents(rounding::round_div(
@@ -118,7 +118,7 @@ pub(crate) fn interest(level: Level, posting: Posting) -> Cents
 
 // The level with that interest accrued.
 fn accrued(level: Level, posting: Posting, interest: Cents) -> Level
-    requires { ⌜ LevelWithin level × Held Book.Electric monthEnd posting × (interest ≡ cents (interestOn (posting .first) (bearingOf level))) ⌝ }
+    requires { ⌜ LevelWithin level × Ranged Book.Electric monthEnd posting × (interest ≡ cents (interestOn (posting .first) (bearingOf level))) ⌝ }
     ensures { λ r. ⌜ r ≡ accruedLevel (posting .first) level ⌝ }
 {
     let accrued = Cents(level.interest.0 + interest.0);
@@ -153,7 +153,7 @@ fn handed_over(entering: u8, level: Level) -> Level
 
 // A level at a month's end: interest, then the handover.
 pub(crate) fn ended(level: Level, posting: Posting, interest: Cents, entering: u8) -> Level
-    requires { ⌜ LevelWithin level × Held Book.Electric monthEnd posting × (interest ≡ cents (interestOn (posting .first) (bearingOf level))) ⌝ }
+    requires { ⌜ LevelWithin level × Ranged Book.Electric monthEnd posting × (interest ≡ cents (interestOn (posting .first) (bearingOf level))) ⌝ }
     ensures { λ r. ⌜ r ≡ handedOver entering (accruedLevel (posting .first) level) ⌝ }
 {
     handed_over(entering, accrued(level, posting, interest))

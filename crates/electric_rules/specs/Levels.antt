@@ -86,7 +86,7 @@ abbrev pub intoFirst : Level → Level
 intoFirst l =
     record { carried = cents (l .carried .0 +ℤ l .first .due .0); interest = l .interest; pending = noRun; first = l .pending; second = l .second }
 
--- run 2 does
+-- run 2 does likewise
 abbrev pub intoSecond : Level → Level
 intoSecond l =
     record { carried = cents (l .carried .0 +ℤ l .second .due .0); interest = l .interest; pending = noRun; first = l .first; second = l .pending }

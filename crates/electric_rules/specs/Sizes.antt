@@ -12,7 +12,7 @@ use Rattle.rounding.specs.Laws.{rounds}
 use Rattle.rounding.specs.Weight.{mostWeighed, weighable, weighable-true, weight-between}
 use Rattle.electric_rules.specs.declared.Rates.{Rates}
 use Rattle.electric_rules.specs.declared.Period.{Period}
-use Rattle.electric_rules.specs.Rates.{lightAndPower, missouriPublicService, ratesOf}
+use Rattle.electric_rules.specs.Rates.{ratesLP, ratesMPS, ratesOf}
 use Rattle.electric_rules.specs.Settlement.{varianceOf, shareableOf, shareOf, weightBy, secondaryShare, primaryShare}
 use Rattle.electric_rules.specs.Ranges.{PeriodWithin}
 
@@ -26,7 +26,7 @@ pub rates-within : (division : ℕ) → RatesWithin (ratesOf division)
 unfolding ratesOf
 rates-within division = go (eqb division 0)
   where
-    go : (t : Bool) → RatesWithin (cond t lightAndPower missouriPublicService)
+    go : (t : Bool) → RatesWithin (cond t ratesLP ratesMPS)
     go true = record { percentage = omega signed; base = omega signed; secondary = omega signed; primary = omega signed }
     go false = record { percentage = omega signed; base = omega signed; secondary = omega signed; primary = omega signed }
 

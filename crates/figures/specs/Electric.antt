@@ -7,7 +7,7 @@ use Rattle.postings.specs.declared.Posting.{Posting}
 use Rattle.electric_rules.specs.declared.Period.{Period}
 use Rattle.electric_rules.specs.declared.ElectricBook.{ElectricBook}
 use Rattle.electric_rules.specs.Book.{salesOf, periodOf, freshLevel}
-use Rattle.electric_rules.specs.Rates.{lightAndPower}
+use Rattle.electric_rules.specs.Rates.{ratesLP}
 use Rattle.electric_rules.specs.Settlement.{shareOf, remainderAfter, weightBy, secondaryShare, primaryShare}
 use Rattle.electric_rules.specs.Levels.{interestOn}
 use Rattle.electric_rules.specs.Refusals.{postOf}
@@ -31,19 +31,19 @@ tiny rem = periodOf (pos 1080) (salesOf (pos 600) (pos 0)) rem
 
 -- and the same period once more
 abbrev again : Period
-again = tiny (remainderAfter lightAndPower (tiny (pos 0)))
+again = tiny (remainderAfter ratesLP (tiny (pos 0)))
 
 abbrev pub electric : List Figure
 electric =
     -- R, rem, w
-    ((shareOf lightAndPower whole ∷ remainderAfter lightAndPower whole ∷ weightBy lightAndPower whole ∷ []) are (pos 190950 ∷ pos 0 ∷ pos 60494 ∷ []))
+    ((shareOf ratesLP whole ∷ remainderAfter ratesLP whole ∷ weightBy ratesLP whole ∷ []) are (pos 190950 ∷ pos 0 ∷ pos 60494 ∷ []))
     -- shares
-    ∷ ((secondaryShare lightAndPower whole ∷ primaryShare lightAndPower whole ∷ []) are (pos 115513 ∷ pos 75437 ∷ []))
+    ∷ ((secondaryShare ratesLP whole ∷ primaryShare ratesLP whole ∷ []) are (pos 115513 ∷ pos 75437 ∷ []))
     -- both factors, as the book answers
     ∷ (answerValues (postOf november estimates .answer) are (pos 9 ∷ pos 9 ∷ []))
     -- R and rem, first and then
-    ∷ ((shareOf lightAndPower (tiny (pos 0)) ∷ remainderAfter lightAndPower (tiny (pos 0)) ∷ []) are (pos 1 ∷ negℤ (pos 43000) ∷ []))
-    ∷ ((shareOf lightAndPower again ∷ remainderAfter lightAndPower again ∷ []) are (pos 0 ∷ pos 14000 ∷ []))
+    ∷ ((shareOf ratesLP (tiny (pos 0)) ∷ remainderAfter ratesLP (tiny (pos 0)) ∷ []) are (pos 1 ∷ negℤ (pos 43000) ∷ []))
+    ∷ ((shareOf ratesLP again ∷ remainderAfter ratesLP again ∷ []) are (pos 0 ∷ pos 14000 ∷ []))
     -- interest at r 60,000
     ∷ (interestOn (pos 60000) (pos 1200000) is pos 6000)
     ∷ (interestOn (pos 60000) (negℤ (pos 100)) is negℤ (pos 1))

@@ -1,5 +1,5 @@
 -- Postings: the table of kinds and fields with its bit maps, and a book's answers.
 pub mod Kinds
-pub mod Held
+pub mod Ranged
 pub mod BitMaps
 pub mod Answers
