@@ -1,19 +1,21 @@
 -- A part of the book is the same where the amounts are that a step makes anew. Assumes nothing.
-use mathlib.Core.Path.{_≡_, sym, _∙_, subst}
-use mathlib.Core.Bool.{Bool, true, false, cond}
+use mathlib.Core.Path.{_≡_, sym, ap, _∙_}
+use mathlib.Core.Bool.{Bool, cond}
 use Prim.Native.Nat.{ℕ}
-use lib.IntN.{ℤ, _+ℤ_}
+use lib.IntN.{ℤ, pos, _+ℤ_}
 use borrow.Author.Tests.{ne-eqb}
+use Rattle.ints.specs.Machine.{eqZ-false}
 use Rattle.amounts.specs.Amounts.{cents, points}
 use Rattle.amounts.specs.declared.Points.{Points}
+use Rattle.postings.specs.declared.Answer.{Answer}
 use Rattle.electric_rules.specs.declared.Run.{Run}
 use Rattle.electric_rules.specs.declared.Level.{Level}
 use Rattle.electric_rules.specs.declared.Period.{Period}
 use Rattle.electric_rules.specs.declared.ElectricBook.{ElectricBook}
-use Rattle.electric_rules.specs.Book.{remainder, salesOf, noRun}
+use Rattle.electric_rules.specs.declared.Posted.{Posted}
+use Rattle.electric_rules.specs.Book.{remainder, salesOf, noRun, posted}
 use Rattle.electric_rules.specs.Levels.{handedOver}
-use Rattle.electric_rules.specs.Next.{isSecondary, levelAt}
-use Rattle.electric_rules.specs.Ranges.{LevelWithin, BookWithin}
+use Rattle.electric_rules.specs.Next.{withLevels, isSecondary}
 
 pub same-cents : {a b : ℤ} → a ≡ b → cents a ≡ cents b
 same-cents e = λ i. cents (e i)
@@ -59,11 +61,16 @@ pub enters-neither : (n : ℕ) (l : Level) → (n ≡ 1 → ⊥) → (n ≡ 2 �
 unfolding handedOver
 enters-neither n l f g = sym (simp (ne-eqb n 1 f, ne-eqb n 2 g))
 
--- ---- the level that a posting names
+-- ---- the level that a posting names, and what it is answered of it
 
-pub level-at-within : (b : ElectricBook) (z : ℤ) {l : Level} → BookWithin b → l ≡ levelAt z b → LevelWithin l
-level-at-within b z w e = subst (λ (m : Level). LevelWithin m) (sym e) (go (isSecondary z))
-  where
-    go : (t : Bool) → LevelWithin (cond t (b .secondary) (b .primary))
-    go true = w .secondary
-    go false = w .primary
+module _ (b : ElectricBook) (answer : Level → Answer) (change : Level → Level) where
+  abbrev at : Bool → Posted
+  at t =
+      let l = cond t (b .secondary) (b .primary) in
+      posted (answer l) (cond t (withLevels b (change l) (b .primary)) (withLevels b (b .secondary) (change l)))
+
+  pub on-secondary : {z : ℤ} → z ≡ pos 0 → posted (answer (b .secondary)) (withLevels b (change (b .secondary)) (b .primary)) ≡ at (isSecondary z)
+  on-secondary e = ap (λ (y : ℤ). at (isSecondary y)) (sym e)
+
+  pub on-primary : {z : ℤ} → (z ≡ pos 0 → ⊥) → posted (answer (b .primary)) (withLevels b (b .secondary) (change (b .primary))) ≡ at (isSecondary z)
+  on-primary {z} f = ap at (sym (eqZ-false z (pos 0) f))

@@ -67,10 +67,17 @@ fn post_bill(book: ElectricBook, posting: Posting) -> Posted
     requires { ⌜ BookWithin book × Ranged Book.Electric bill posting ⌝ }
     ensures { λ r. ⌜ r ≡ effectAt bill book posting ⌝ }
 {
-    let level = crate::levels::level_at(book, posting);
-    let line = crate::levels::line(level, posting);
-    let billed = crate::levels::billed(level, posting, line);
-    let next = crate::levels::with_level_at(book, posting, billed);
+    let mut next = book;
+    if posting.first == 0 {
+        let line = crate::levels::line(book.secondary, posting);
+        next.secondary = crate::levels::billed(book.secondary, posting, line);
+        return Posted {
+            answer: Answer::Line(line),
+            book: next,
+        };
+    }
+    let line = crate::levels::line(book.primary, posting);
+    next.primary = crate::levels::billed(book.primary, posting, line);
     Posted {
         answer: Answer::Line(line),
         book: next,
@@ -81,9 +88,12 @@ fn post_adjustment(book: ElectricBook, posting: Posting) -> Posted
     requires { ⌜ BookWithin book × Ranged Book.Electric adjust posting ⌝ }
     ensures { λ r. ⌜ r ≡ effectAt adjust book posting ⌝ }
 {
-    let level = crate::levels::level_at(book, posting);
-    let adjusted = crate::levels::adjusted(level, posting);
-    let next = crate::levels::with_level_at(book, posting, adjusted);
+    let mut next = book;
+    if posting.first == 0 {
+        next.secondary = crate::levels::adjusted(book.secondary, posting);
+    } else {
+        next.primary = crate::levels::adjusted(book.primary, posting);
+    }
     Posted {
         answer: Answer::Done,
         book: next,

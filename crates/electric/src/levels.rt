@@ -1,6 +1,5 @@
 // What bill, adjust and month end make of a level.
 use amounts::Cents;
-use electric_rules::ElectricBook;
 use electric_rules::Level;
 use electric_rules::Run;
 use postings::Book;
@@ -12,7 +11,6 @@ ghost use Rattle.postings.specs.Kinds.{bill, monthEnd, adjust};
 ghost use Rattle.postings.specs.Ranged.{Ranged};
 ghost use Rattle.riders.specs.Lines.{partOf};
 ghost use Rattle.electric_rules.specs.Levels.{factorsOf, levelLine, dueLess, billedLevel, adjustedLevel, bearingOf, interestOn, accruedLevel, handedOver};
-ghost use Rattle.electric_rules.specs.Next.{levelAt, withLevelAt};
 ghost use Rattle.electric_rules.specs.Ranges.{RunWithin, LevelWithin};
 
 // Points to a cent, since a point is $0.0001.
@@ -20,29 +18,6 @@ const POINTS: i64 = 100;
 
 // Millionths of a year's rate to a month's.
 const MONTHLY: i64 = 12_000_000;
-
-// The level that a bill or an adjustment names.
-pub(crate) fn level_at(book: ElectricBook, posting: Posting) -> Level
-    ensures { λ r. ⌜ r ≡ levelAt (posting .first) book ⌝ }
-{
-    if posting.first == 0 {
-        return book.secondary;
-    }
-    book.primary
-}
-
-// The book with another level in its place.
-pub(crate) fn with_level_at(book: ElectricBook, posting: Posting, level: Level) -> ElectricBook
-    ensures { λ r. ⌜ r ≡ withLevelAt (posting .first) book level ⌝ }
-{
-    let mut next = book;
-    if posting.first == 0 {
-        next.secondary = level;
-        return next;
-    }
-    next.primary = level;
-    next
-}
 
 // A bill's line.
 pub(crate) fn line(level: Level, posting: Posting) -> Cents

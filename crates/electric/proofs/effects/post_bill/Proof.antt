@@ -1,38 +1,56 @@
 -- `effects::post_bill` is the effect of a bill: its line, and the level that it names with the parts taken from its runs. Assumes nothing.
-use mathlib.Core.Path.{ap, _∙_}
+use mathlib.Core.Path.{_≡_, ap, _∙_}
+use lib.IntN.{pos}
+use mir.Syntax.{w64}
+use mir.Val.{SFits, ofZ}
 use borrow.Author.Needs.{needs}
-use Rattle.amounts.specs.Amounts.{cents}
-use Rattle.postings.specs.declared.Answer.the-variants.{Line}
-use Rattle.electric_rules.specs.declared.Level.{Level}
+use Rattle.ints.specs.Bound.{b-between, fits64}
+use Rattle.ints.specs.Machine.{eq-bits, zero64}
 use Rattle.electric_rules.specs.Book.{posted}
+use Rattle.postings.specs.declared.Answer.the-variants.{Line}
+use Rattle.amounts.specs.Amounts.{cents}
+use Rattle.electric_rules.specs.declared.Level.{Level}
 use Rattle.electric_rules.specs.Levels.{levelLine, billedLevel}
-use Rattle.electric_rules.specs.Next.{withLevelAt, billPosted, nextAt, lineAnswer, answerAt}
-use Rattle.electric.proofs.Parts.{level-at-within}
+use Rattle.electric_rules.specs.Next.{withLevels, billPosted, nextAt, lineAnswer, answerAt}
+use Rattle.electric.proofs.Parts.{on-secondary, on-primary}
 use Rattle.electric.proofs.effects.post_bill.Statement.{statement}
 use Rattle.electric.proofs.effects.post_bill.Tie as tie
 
-level-at-requires : tie.Need-level-at-requires
-level-at-requires c κs = search needs
+-- what the test of the level tells
+
+named : (c : tie.Then1) → c .before .before .before .args .posting .first ≡ pos 0
+named c =
+    let f : SFits w64 (c .before .before .before .args .posting .first) = fits64 (b-between (c .before .before .before .pre .1 .0)) tt in
+    eq-bits f zero64 (c .if1 .taken)
+
+other : (c : tie.Else1) → c .before .before .before .args .posting .first ≡ pos 0 → ⊥
+other c z = c .if1 .left (ap (ofZ w64) z)
 
 line-requires : tie.Need-line-requires
-line-requires c κs = (level-at-within (c .before .args .book) (c .before .args .posting .first) (c .before .pre .0) (c .level-at .ensures), c .before .pre .1)
+line-requires c κs = search needs
 
 billed-requires : tie.Need-billed-requires
-billed-requires c κs = (level-at-within (c .before .before .args .book) (c .before .before .args .posting .first) (c .before .before .pre .0) (c .before .level-at .ensures), c .before .before .pre .1, c .line .ensures)
-
-with-level-at-requires : tie.Need-with-level-at-requires
-with-level-at-requires c κs = search needs
+billed-requires c κs = search needs
 
 returns : tie.Need-returns
 unfolding nextAt answerAt billPosted lineAnswer
-returns c = let b = c .before .before .before .before .args .book in
-    let p = c .before .before .before .before .args .posting in
-    let at = c .before .before .before .level-at .ensures in
-    let line = c .before .before .line .ensures ∙ ap (λ (l : Level). cents (levelLine (p .second) l)) at in
-    let next = c .with-level-at .ensures ∙ ap (withLevelAt (p .first) b) (c .before .billed .ensures ∙ ap (billedLevel (p .second)) at) in
-    λ i. posted (Line (line i)) (next i)
+returns c = let s = c .before .before .before .before .before .args in
+    (λ i. posted (Line (c .before .line .ensures i)) (withLevels (s .book) (c .billed .ensures i) (s .book .primary)))
+    ∙ on-secondary (s .book) (λ (l : Level). Line (cents (levelLine (s .posting .second) l))) (billedLevel (s .posting .second)) (named (c .before .before))
+
+line-requires-2 : tie.Need-line-requires-2
+line-requires-2 c κs = search needs
+
+billed-requires-2 : tie.Need-billed-requires-2
+billed-requires-2 c κs = search needs
+
+returns-2 : tie.Need-returns-2
+unfolding nextAt answerAt billPosted lineAnswer
+returns-2 c = let s = c .before .before .before .before .before .args in
+    (λ i. posted (Line (c .before .line2 .ensures i)) (withLevels (s .book) (s .book .secondary) (c .billed2 .ensures i)))
+    ∙ on-primary (s .book) (λ (l : Level). Line (cents (levelLine (s .posting .second) l))) (billedLevel (s .posting .second)) (other (c .before .before))
 
 pub post-bill-spec : {M : Type 1} → statement M
 post-bill-spec =
     tie.close
-    (tie.spec level-at-requires line-requires billed-requires with-level-at-requires returns)
+    (tie.spec line-requires billed-requires returns line-requires-2 billed-requires-2 returns-2)
