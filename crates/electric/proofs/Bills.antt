@@ -45,7 +45,11 @@ module _ (u : ℤ) (l : Level) where
     unfolding partOf lineOf
     second-within = within-by (search (bounds, rounds) depth 30) tt
 
--- a month's interest
+-- the balance that bears interest, and a month's interest on it
+pub bearing-within : (l : Level) → LevelWithin l → Within 5000000000000 (bearingOf l)
+unfolding bearingOf
+bearing-within l ls = within-by (search bounds depth 30) tt
+
 pub interest-within : (rate : ℤ) (l : Level) → Between (pos 0) (pos 200000) rate → LevelWithin l → Within 100000000000 (interestOn rate (bearingOf l))
-unfolding interestOn bearingOf
-interest-within rate l rs ls = within-by (search (bounds, rounds) depth 30) tt
+unfolding interestOn
+interest-within rate l rs ls = let balance = bearing-within l ls in within-by (search (bounds, rounds) depth 30) tt

@@ -3,8 +3,12 @@ use mathlib.Core.Path.{_≡_, sym, ap, _∙_}
 use mathlib.Core.Bool.{Bool, cond}
 use Prim.Native.Nat.{ℕ}
 use lib.IntN.{ℤ, pos, _+ℤ_}
+use mir.Syntax.{w64}
+use mir.Val.{ofZ}
 use borrow.Author.Tests.{ne-eqb}
-use Rattle.ints.specs.Machine.{eqZ-false}
+use Rattle.ints.specs.Range.{Between}
+use Rattle.ints.specs.Bound.{b-between, fits64}
+use Rattle.ints.specs.Machine.{eq-bits, zero64, eqZ-false}
 use Rattle.amounts.specs.Amounts.{cents, points}
 use Rattle.amounts.specs.declared.Points.{Points}
 use Rattle.postings.specs.declared.Answer.{Answer}
@@ -61,7 +65,7 @@ pub enters-neither : (n : ℕ) (l : Level) → (n ≡ 1 → ⊥) → (n ≡ 2 �
 unfolding handedOver
 enters-neither n l f g = sym (simp (ne-eqb n 1 f, ne-eqb n 2 g))
 
--- ---- the level that a posting names, and what it is answered of it
+-- ---- the level that a posting names, found by the code's test for 0, and what it is answered of it
 
 module _ (b : ElectricBook) (answer : Level → Answer) (change : Level → Level) where
   abbrev at : Bool → Posted
@@ -69,8 +73,8 @@ module _ (b : ElectricBook) (answer : Level → Answer) (change : Level → Leve
       let l = cond t (b .secondary) (b .primary) in
       posted (answer l) (cond t (withLevels b (change l) (b .primary)) (withLevels b (b .secondary) (change l)))
 
-  pub on-secondary : {z : ℤ} → z ≡ pos 0 → posted (answer (b .secondary)) (withLevels b (change (b .secondary)) (b .primary)) ≡ at (isSecondary z)
-  on-secondary e = ap (λ (y : ℤ). at (isSecondary y)) (sym e)
+  pub on-secondary : (z : ℤ) → Between (pos 0) (pos 1) z → ofZ w64 z ≡ 0 → posted (answer (b .secondary)) (withLevels b (change (b .secondary)) (b .primary)) ≡ at (isSecondary z)
+  on-secondary z h e = ap (λ (y : ℤ). at (isSecondary y)) (sym (eq-bits (fits64 (b-between h) tt) zero64 e))
 
-  pub on-primary : {z : ℤ} → (z ≡ pos 0 → ⊥) → posted (answer (b .primary)) (withLevels b (b .secondary) (change (b .primary))) ≡ at (isSecondary z)
-  on-primary {z} f = ap at (sym (eqZ-false z (pos 0) f))
+  pub on-primary : (z : ℤ) → (ofZ w64 z ≡ 0 → ⊥) → posted (answer (b .primary)) (withLevels b (b .secondary) (change (b .primary))) ≡ at (isSecondary z)
+  on-primary z f = ap at (sym (eqZ-false z (pos 0) (λ e. f (ap (ofZ w64) e))))

@@ -1,6 +1,6 @@
 -- What the rows before the next book have shown where none of them holds: the ranges of the book and of the posting's numbers, and that the
 -- next book decides. Assumes nothing.
-use mathlib.Core.Path.{_≡_, refl, sym, _∙_}
+use mathlib.Core.Path.{_≡_, refl, sym, ap, _∙_, subst}
 use mathlib.Core.Bool.{false, true≢false}
 use Prim.Native.Nat.{ℕ, _<_}
 use native.Mathlib.Omega.{arith}
@@ -12,11 +12,12 @@ use Rattle.postings.specs.Ranged.{Ranged, none-out-of-range}
 use Rattle.postings.specs.declared.Book.the-variants.{Electric}
 use Rattle.postings.specs.declared.Posting.{Posting}
 use Rattle.electric_rules.specs.declared.ElectricBook.{ElectricBook}
+use Rattle.electric_rules.specs.declared.Posted.{Posted}
 use Rattle.electric_rules.specs.Book.{posted, refused}
 use Rattle.electric_rules.specs.Next.{nextOf, answerOf}
 use Rattle.electric_rules.specs.Ranges.{BookWithin, book-within}
 use Rattle.electric_rules.specs.Refusals.{rowsBefore, rowsAfter, postOf}
-use Rattle.electric.specs.Stored.{storedOr12, effectAt}
+use Rattle.electric.specs.Stored.{storedOr12, effectAt, StoredAs}
 
 module _ (b : ElectricBook) (p : Posting) {n : ℕ} (e : n ≡ refusalBy (rowsBefore b p)) where
   -- a row before the next book refuses
@@ -43,6 +44,15 @@ module _ (b : ElectricBook) (p : Posting) {n : ℕ} (e : n ≡ refusalBy (rowsBe
     pub stored-is : storedOr12 b (effectAt (kindOf (p .kind)) b p) ≡ postOf b p
     unfolding postOf storedOr12
     stored-is = sym (gives-later (rowsBefore b p) (posted (answerOf b p) (nextOf b p)) (refused b) (rowsAfter (nextOf b p)) tt (sym e ∙ z))
+
+-- ---- the effect of a kind, by the number that the code has matched
+
+module _ (p : Posting) {n : ℕ} (e : p .kind ≡ n) where
+  pub ranged-as : Ranged Electric (kindOf (p .kind)) p → Ranged Electric (kindOf n) p
+  ranged-as h = subst (λ (m : ℕ). Ranged Electric (kindOf m) p) e h
+
+  pub stored-as-kind : (b : ElectricBook) (next : Posted) → StoredAs b next (effectAt (kindOf n) b p) → StoredAs b next (effectAt (kindOf (p .kind)) b p)
+  stored-as-kind b next h = h ∙ ap (λ (m : ℕ). storedOr12 b (effectAt (kindOf m) b p)) (sym e)
 
 -- of the kinds that the book has, 6 is what 1 to 5 leave
 pub is-adjustment : (n : ℕ) → unknownKind Electric n ≡ false → (n ≡ 1 → ⊥) → (n ≡ 2 → ⊥) → (n ≡ 3 → ⊥) → (n ≡ 4 → ⊥) → (n ≡ 5 → ⊥) → n ≡ 6

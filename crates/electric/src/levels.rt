@@ -79,16 +79,21 @@ pub(crate) fn adjusted(level: Level, posting: Posting) -> Level
     next
 }
 
-// A month's interest, on the balance that bears it.
+// The balance that bears interest.
+fn bearing(level: Level) -> Cents
+    requires { ⌜ LevelWithin level ⌝ }
+    ensures { λ r. ⌜ r ≡ cents (bearingOf level) ⌝ }
+{
+    Cents(level.carried.0 + level.pending.due.0 + level.first.due.0 + level.second.due.0)
+}
+
+// A month's interest on it.
 pub(crate) fn interest(level: Level, posting: Posting) -> Cents
     requires { ⌜ LevelWithin level × Ranged Book.Electric monthEnd posting ⌝ }
     ensures { λ r. ⌜ r ≡ cents (interestOn (posting .first) (bearingOf level)) ⌝ }
 {
-    Cents(rounding::round_div(
-        posting.first
-            * (level.carried.0 + level.pending.due.0 + level.first.due.0 + level.second.due.0),
-        MONTHLY,
-    ))
+    let balance = bearing(level);
+    Cents(rounding::round_div(posting.first * balance.0, MONTHLY))
 }
 
 // The level with that interest accrued.

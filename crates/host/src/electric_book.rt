@@ -8,6 +8,7 @@ ghost use Rattle.electric_rules.specs.Book.{openedOf};
 ghost use Rattle.electric_rules.specs.Refusals.{postOf};
 ghost use Rattle.host.specs.Replies.{electricReply};
 
+// The reply, and the book after it.
 #[repr(C)]
 pub struct ElectricReply {
     pub reply: Reply,

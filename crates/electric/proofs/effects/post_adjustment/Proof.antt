@@ -1,11 +1,6 @@
 -- `effects::post_adjustment` is the effect of an adjustment: the level that it names is adjusted. Assumes nothing.
-use mathlib.Core.Path.{_≡_, ap, _∙_}
-use lib.IntN.{pos}
-use mir.Syntax.{w64}
-use mir.Val.{SFits, ofZ}
+use mathlib.Core.Path.{_∙_}
 use borrow.Author.Needs.{needs}
-use Rattle.ints.specs.Bound.{b-between, fits64}
-use Rattle.ints.specs.Machine.{eq-bits, zero64}
 use Rattle.electric_rules.specs.Book.{posted}
 use Rattle.postings.specs.declared.Answer.the-variants.{Done}
 use Rattle.electric_rules.specs.declared.Level.{Level}
@@ -14,16 +9,6 @@ use Rattle.electric_rules.specs.Next.{withLevels, adjustPosted, nextAt, answerA
 use Rattle.electric.proofs.Parts.{on-secondary, on-primary}
 use Rattle.electric.proofs.effects.post_adjustment.Statement.{statement}
 use Rattle.electric.proofs.effects.post_adjustment.Tie as tie
-
--- what the test of the level tells
-
-named : (c : tie.Then1) → c .before .before .before .args .posting .first ≡ pos 0
-named c =
-    let f : SFits w64 (c .before .before .before .args .posting .first) = fits64 (b-between (c .before .before .before .pre .1 .0)) tt in
-    eq-bits f zero64 (c .if1 .taken)
-
-other : (c : tie.Else1) → c .before .before .before .args .posting .first ≡ pos 0 → ⊥
-other c z = c .if1 .left (ap (ofZ w64) z)
 
 adjusted-requires : tie.Need-adjusted-requires
 adjusted-requires c κs = search needs
@@ -35,13 +20,13 @@ returns : tie.Need-returns
 unfolding nextAt answerAt adjustPosted
 returns c = let s = c .before .before .before .before .args in
     (λ i. posted Done (withLevels (s .book) (c .adjusted .ensures i) (s .book .primary)))
-    ∙ on-secondary (s .book) (λ (l : Level). Done) (adjustedLevel (s .posting .second)) (named (c .before))
+    ∙ on-secondary (s .book) (λ (l : Level). Done) (adjustedLevel (s .posting .second)) (s .posting .first) (c .before .before .before .before .pre .1 .0) (c .before .if1 .taken)
 
 returns-2 : tie.Need-returns-2
 unfolding nextAt answerAt adjustPosted
 returns-2 c = let s = c .before .before .before .before .args in
     (λ i. posted Done (withLevels (s .book) (s .book .secondary) (c .adjusted2 .ensures i)))
-    ∙ on-primary (s .book) (λ (l : Level). Done) (adjustedLevel (s .posting .second)) (other (c .before))
+    ∙ on-primary (s .book) (λ (l : Level). Done) (adjustedLevel (s .posting .second)) (s .posting .first) (c .before .if1 .left)
 
 pub post-adjustment-spec : {M : Type 1} → statement M
 post-adjustment-spec = tie.close (tie.spec adjusted-requires adjusted-requires-2 returns returns-2)

@@ -1,11 +1,6 @@
 -- `effects::post_bill` is the effect of a bill: its line, and the level that it names with the parts taken from its runs. Assumes nothing.
-use mathlib.Core.Path.{_≡_, ap, _∙_}
-use lib.IntN.{pos}
-use mir.Syntax.{w64}
-use mir.Val.{SFits, ofZ}
+use mathlib.Core.Path.{_∙_}
 use borrow.Author.Needs.{needs}
-use Rattle.ints.specs.Bound.{b-between, fits64}
-use Rattle.ints.specs.Machine.{eq-bits, zero64}
 use Rattle.electric_rules.specs.Book.{posted}
 use Rattle.postings.specs.declared.Answer.the-variants.{Line}
 use Rattle.amounts.specs.Amounts.{cents}
@@ -15,16 +10,6 @@ use Rattle.electric_rules.specs.Next.{withLevels, billPosted, nextAt, lineAnswe
 use Rattle.electric.proofs.Parts.{on-secondary, on-primary}
 use Rattle.electric.proofs.effects.post_bill.Statement.{statement}
 use Rattle.electric.proofs.effects.post_bill.Tie as tie
-
--- what the test of the level tells
-
-named : (c : tie.Then1) → c .before .before .before .args .posting .first ≡ pos 0
-named c =
-    let f : SFits w64 (c .before .before .before .args .posting .first) = fits64 (b-between (c .before .before .before .pre .1 .0)) tt in
-    eq-bits f zero64 (c .if1 .taken)
-
-other : (c : tie.Else1) → c .before .before .before .args .posting .first ≡ pos 0 → ⊥
-other c z = c .if1 .left (ap (ofZ w64) z)
 
 line-requires : tie.Need-line-requires
 line-requires c κs = search needs
@@ -36,7 +21,7 @@ returns : tie.Need-returns
 unfolding nextAt answerAt billPosted lineAnswer
 returns c = let s = c .before .before .before .before .before .args in
     (λ i. posted (Line (c .before .line .ensures i)) (withLevels (s .book) (c .billed .ensures i) (s .book .primary)))
-    ∙ on-secondary (s .book) (λ (l : Level). Line (cents (levelLine (s .posting .second) l))) (billedLevel (s .posting .second)) (named (c .before .before))
+    ∙ on-secondary (s .book) (λ (l : Level). Line (cents (levelLine (s .posting .second) l))) (billedLevel (s .posting .second)) (s .posting .first) (c .before .before .before .before .before .pre .1 .0) (c .before .before .if1 .taken)
 
 line-requires-2 : tie.Need-line-requires-2
 line-requires-2 c κs = search needs
@@ -48,7 +33,7 @@ returns-2 : tie.Need-returns-2
 unfolding nextAt answerAt billPosted lineAnswer
 returns-2 c = let s = c .before .before .before .before .before .args in
     (λ i. posted (Line (c .before .line2 .ensures i)) (withLevels (s .book) (s .book .secondary) (c .billed2 .ensures i)))
-    ∙ on-primary (s .book) (λ (l : Level). Line (cents (levelLine (s .posting .second) l))) (billedLevel (s .posting .second)) (other (c .before .before))
+    ∙ on-primary (s .book) (λ (l : Level). Line (cents (levelLine (s .posting .second) l))) (billedLevel (s .posting .second)) (s .posting .first) (c .before .before .if1 .left)
 
 pub post-bill-spec : {M : Type 1} → statement M
 post-bill-spec =
