@@ -27,3 +27,11 @@ cents-within amount e = inRange-true (negℤ (pos 1000000000000)) (pos 100000000
 pub points-within : (amount : Points) → pointsInLimits amount ≡ true → Within 99999 (amount .0)
 unfolding pointsInLimits
 points-within amount e = inRange-true (negℤ (pos 99999)) (pos 99999) (amount .0) e
+
+-- ---- an amount is the same where its number is
+
+pub same-cents : {a b : ℤ} → a ≡ b → cents a ≡ cents b
+same-cents e = λ i. cents (e i)
+
+pub same-points : {a b : ℤ} → a ≡ b → points a ≡ points b
+same-points e = λ i. points (e i)

@@ -9,23 +9,18 @@ use borrow.Author.Tests.{ne-eqb}
 use Rattle.ints.specs.Range.{Between}
 use Rattle.ints.specs.Bound.{b-between, fits64}
 use Rattle.ints.specs.Machine.{eq-bits, zero64, eqZ-false}
-use Rattle.amounts.specs.Amounts.{cents, points}
+use Rattle.amounts.specs.Amounts.{cents}
 use Rattle.amounts.specs.declared.Points.{Points}
 use Rattle.postings.specs.declared.Answer.{Answer}
-use Rattle.electric_rules.specs.declared.Run.{Run}
+use Rattle.riders.specs.declared.Run.{Run}
+use Rattle.riders.specs.Runs.{noRun}
 use Rattle.electric_rules.specs.declared.Level.{Level}
 use Rattle.electric_rules.specs.declared.Period.{Period}
 use Rattle.electric_rules.specs.declared.ElectricBook.{ElectricBook}
 use Rattle.electric_rules.specs.declared.Posted.{Posted}
-use Rattle.electric_rules.specs.Book.{remainder, salesOf, noRun, posted}
+use Rattle.electric_rules.specs.Book.{remainder, salesOf, posted}
 use Rattle.electric_rules.specs.Levels.{handedOver}
 use Rattle.electric_rules.specs.Next.{withLevels, isSecondary}
-
-pub same-cents : {a b : ℤ} → a ≡ b → cents a ≡ cents b
-same-cents e = λ i. cents (e i)
-
-pub same-points : {a b : ℤ} → a ≡ b → points a ≡ points b
-same-points e = λ i. points (e i)
 
 pub same-remainder : {a b : ℤ} → a ≡ b → remainder a ≡ remainder b
 same-remainder e = λ i. remainder (e i)

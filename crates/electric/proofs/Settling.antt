@@ -1,30 +1,24 @@
 -- A settlement's filings make a book that is stored or refused as the rules' own is: they are the rules' filings where both factors are in
 -- limits, and where one is not, neither book is. Assumes nothing.
-use mathlib.Core.Path.{_≡_, refl, sym, _∙_, ap}
+use mathlib.Core.Path.{_≡_, refl, sym, _∙_}
 use mathlib.Core.Bool.{Bool, true, false, _&&_}
-use lib.IntN.{ℤ, pos}
-use Rattle.ints.specs.Range.{inRange}
+use lib.IntN.{ℤ}
 use Rattle.amounts.specs.Amounts.{points, pointsInLimits}
-use Rattle.amounts.specs.declared.Points.{Points}
 use Rattle.postings.specs.Kinds.{settle}
 use Rattle.postings.specs.declared.Posting.{Posting}
 use Rattle.postings.specs.declared.Answer.the-variants.{FiledLevels}
-use Rattle.electric_rules.specs.declared.Run.{Run}
+use Rattle.riders.specs.Runs.{run, factorFor, runInLimits, narrowed, narrowed-in, narrowed-out}
 use Rattle.electric_rules.specs.declared.Level.{Level}
 use Rattle.electric_rules.specs.declared.ElectricBook.{ElectricBook}
 use Rattle.electric_rules.specs.declared.Posted.{Posted}
-use Rattle.electric_rules.specs.Book.{remainder, run, posted}
+use Rattle.electric_rules.specs.Book.{remainder, posted}
 use Rattle.electric_rules.specs.Rates.{ratesOf}
 use Rattle.electric_rules.specs.Settlement.{remainderAfter, secondaryShare, primaryShare}
-use Rattle.electric_rules.specs.Levels.{owedBy, factorFor, filedLevel, settledLevel}
-use Rattle.electric_rules.specs.Limits.{runInLimits, levelInLimits, inLimits}
+use Rattle.electric_rules.specs.Levels.{owedBy, filedLevel, settledLevel}
+use Rattle.electric_rules.specs.Limits.{levelInLimits, inLimits}
 use Rattle.electric_rules.specs.Next.{settledWith, settlePosted, filedAnswer, nextAt, answerAt}
 use Rattle.electric.proofs.LastRow.{out-of-limits-12}
-use Rattle.electric.specs.Filings.{narrowed}
 use Rattle.electric.specs.Stored.{storedOr12, effectAt, StoredAs}
-
-pub same-run : {f g : Points} {a b : ℤ} → f ≡ g → a ≡ b → _≡_ {A = Run} (record { factor = f; due = record { 0 = a } }) (record { factor = g; due = record { 0 = b } })
-same-run e h = λ i. record { factor = e i; due = record { 0 = h i } }
 
 -- ---- a factor out of limits makes a book out of limits
 
@@ -43,20 +37,6 @@ secondary-out b e = simp (e, and-none)
 primary-out : (b : ElectricBook) → levelInLimits (b .primary) ≡ false → inLimits b ≡ false
 unfolding inLimits
 primary-out b e = simp (e, and-none)
-
--- ---- the narrowed factor
-
-pub narrowed-in : (q : ℤ) → pointsInLimits (points q) ≡ true → narrowed q ≡ q
-unfolding narrowed
-narrowed-in q e = simp e
-
-pub narrowed-beyond : (q : ℤ) → pointsInLimits (points q) ≡ false → narrowed q ≡ pos 100000
-unfolding narrowed
-narrowed-beyond q e = simp e
-
-narrowed-out : (q : ℤ) → pointsInLimits (points q) ≡ false → pointsInLimits (points (narrowed q)) ≡ false
-unfolding pointsInLimits inRange
-narrowed-out q e = ap (λ (z : ℤ). pointsInLimits (points z)) (narrowed-beyond q e)
 
 -- ---- the settled book, by the levels' quotients
 

@@ -108,7 +108,7 @@ fn post_month_end(book: ElectricBook, posting: Posting) -> Posted
     let primary = crate::levels::interest(book.primary, posting);
     let run = electric_refusals::calendar::entering(book.month);
     let mut next = book;
-    next.month = electric_refusals::calendar::month_after(book.month);
+    next.month = riders::months::month_after(book.month);
     next.settled = false;
     next.secondary = crate::levels::ended(book.secondary, posting, secondary, run);
     next.primary = crate::levels::ended(book.primary, posting, primary, run);

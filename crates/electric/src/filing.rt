@@ -1,34 +1,22 @@
 // What a settlement files for a level: the cents that it owes, and the factor that is to bring them in.
 use amounts::Cents;
-use amounts::Points;
 use electric_rules::ElectricBook;
 use electric_rules::Kwh;
 use electric_rules::Level;
 use electric_rules::Period;
 use electric_rules::Remainder;
-use electric_rules::Run;
 use electric_rules::Sales;
+use riders::Quotient;
+use riders::Run;
 ghost use mathlib.Core.Path.{_≡_};
 ghost use lib.IntN.{pos};
 ghost use Rattle.ints.specs.Range.{Between, Within};
 ghost use Rattle.amounts.specs.Amounts.{points};
+ghost use Rattle.riders.specs.Runs.{narrowed};
 ghost use Rattle.electric_rules.specs.Levels.{filedLevel};
 ghost use Rattle.electric_rules.specs.Next.{settledWith};
 ghost use Rattle.electric_rules.specs.Ranges.{LevelWithin};
-ghost use Rattle.electric.specs.Filings.{narrowed, filingOf};
-
-// A factor before it is known to be one that a book may store.
-struct Quotient(i64);
-
-// The factor, or one past the most that a book may store, so that the next book is refused as it would be with the factor itself.
-fn factor_of(quotient: Quotient) -> Points
-    ensures { λ r. ⌜ r ≡ points (narrowed (quotient .0)) ⌝ }
-{
-    if ints::in_range(quotient.0, Points::LEAST as i64, Points::MOST as i64) {
-        return Points(quotient.0 as i32);
-    }
-    Points(Points::MOST + 1)
-}
+ghost use Rattle.electric.specs.Filings.{filingOf};
 
 pub(crate) fn filing_of(share: Cents, level: Level, estimate: Kwh) -> Run
     requires { ⌜ Within 20000000000000 (share .0) × LevelWithin level × Between (pos 1) (pos 10000000000) (estimate .0) ⌝ }
@@ -36,7 +24,7 @@ pub(crate) fn filing_of(share: Cents, level: Level, estimate: Kwh) -> Run
 {
     let owed = share.0 + level.carried.0 + level.interest.0;
     let quotient = Quotient(rounding::round_div(100 * owed, estimate.0));
-    let factor = factor_of(quotient);
+    let factor = quotient.factor();
     Run {
         factor,
         due: Cents(owed),

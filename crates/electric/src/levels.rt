@@ -1,17 +1,18 @@
 // What bill, adjust and month end make of a level.
 use amounts::Cents;
 use electric_rules::Level;
-use electric_rules::Run;
 use postings::Book;
 use postings::Posting;
+use riders::Run;
 ghost use mathlib.Core.Path.{_≡_};
 ghost use Rattle.ints.specs.Range.{Within};
 ghost use Rattle.amounts.specs.Amounts.{cents};
 ghost use Rattle.postings.specs.Kinds.{bill, monthEnd, adjust};
 ghost use Rattle.postings.specs.Ranged.{Ranged};
 ghost use Rattle.riders.specs.Lines.{partOf};
-ghost use Rattle.electric_rules.specs.Levels.{factorsOf, levelLine, dueLess, billedLevel, adjustedLevel, bearingOf, interestOn, accruedLevel, handedOver};
-ghost use Rattle.electric_rules.specs.Ranges.{RunWithin, LevelWithin};
+ghost use Rattle.riders.specs.Runs.{dueLess, RunWithin};
+ghost use Rattle.electric_rules.specs.Levels.{factorsOf, levelLine, billedLevel, adjustedLevel, bearingOf, interestOn, accruedLevel, handedOver};
+ghost use Rattle.electric_rules.specs.Ranges.{LevelWithin};
 
 // Points to a cent, since a point is $0.0001.
 const POINTS: i64 = 100;

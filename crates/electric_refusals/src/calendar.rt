@@ -1,6 +1,7 @@
-// The year of the electric book. No other code says which months settle, which run a month's end lets enter, or which month follows.
+// The year of the electric book. No other code says which months settle, or which run a month's end lets enter.
 ghost use mathlib.Core.Path.{_≡_};
-ghost use Rattle.electric_rules.specs.Calendar.{settles, entering, monthAfter};
+ghost use Rattle.riders.specs.Months.{monthAfter};
+ghost use Rattle.electric_rules.specs.Calendar.{settles, entering};
 
 // Whether the month settles: November and May do.
 pub fn settles(month: u8) -> bool
@@ -20,10 +21,4 @@ pub fn entering(month: u8) -> u8
         return 2;
     }
     0
-}
-
-pub fn month_after(month: u8) -> u8
-    ensures { λ r. ⌜ r ≡ monthAfter month ⌝ }
-{
-    if month < 12 { month + 1 } else { 1 }
 }

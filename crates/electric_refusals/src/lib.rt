@@ -7,25 +7,12 @@ ghost use mathlib.Core.Path.{_≡_};
 ghost use mathlib.Core.Bool.{true};
 ghost use Rattle.refusals.specs.Rows.{refusalBy};
 ghost use Rattle.postings.specs.Kinds.{kindOf};
+ghost use Rattle.riders.specs.Months.{forbidden};
 ghost use Rattle.electric_rules.specs.Limits.{inLimits};
-ghost use Rattle.electric_rules.specs.Refusals.{forbidden, nothingSold, rowsBefore};
+ghost use Rattle.electric_rules.specs.Refusals.{nothingSold, rowsBefore};
 
 pub mod calendar;
 pub mod limits;
-
-// Refusal 8: the month or the settled state forbids it.
-fn is_forbidden(book: ElectricBook, posting: Posting) -> bool
-    ensures { λ r. ⌜ r ≡ forbidden (kindOf (posting .kind)) book ⌝ }
-{
-    let kind = posting.kind;
-    match kind {
-        1 => book.settled,
-        2 => book.settled,
-        4 => book.settled | !calendar::settles(book.month),
-        5 => calendar::settles(book.month) & !book.settled,
-        _ => false,
-    }
-}
 
 // Refusal 10: a settlement of no sales.
 fn sold_nothing(book: ElectricBook, posting: Posting) -> bool
@@ -54,7 +41,7 @@ pub fn refusal_before(book: ElectricBook, posting: Posting) -> u8
     if postings::out_of_range(Book::Electric, posting) {
         return 7;
     }
-    if is_forbidden(book, posting) {
+    if riders::months::is_forbidden(posting, calendar::settles(book.month), book.settled) {
         return 8;
     }
     if sold_nothing(book, posting) {

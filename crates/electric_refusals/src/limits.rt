@@ -4,9 +4,9 @@ use electric_rules::Kwh;
 use electric_rules::Level;
 use electric_rules::Period;
 use electric_rules::Remainder;
-use electric_rules::Run;
 ghost use mathlib.Core.Path.{_≡_};
-ghost use Rattle.electric_rules.specs.Limits.{kwhInLimits, remainderInLimits, runInLimits, levelInLimits, periodInLimits, datesInLimits, inLimits};
+ghost use Rattle.riders.specs.Runs.{runInLimits};
+ghost use Rattle.electric_rules.specs.Limits.{kwhInLimits, remainderInLimits, levelInLimits, periodInLimits, datesInLimits, inLimits};
 
 fn kwh_in_limits(sales: Kwh) -> bool
     ensures { λ r. ⌜ r ≡ kwhInLimits sales ⌝ }
@@ -24,19 +24,12 @@ fn remainder_in_limits(remainder: Remainder) -> bool
     )
 }
 
-fn run_in_limits(run: Run) -> bool
-    ensures { λ r. ⌜ r ≡ runInLimits run ⌝ }
-{
-    run.factor.in_limits() & run.due.in_limits()
-}
-
 fn level_in_limits(level: Level) -> bool
     ensures { λ r. ⌜ r ≡ levelInLimits level ⌝ }
 {
     level.carried.in_limits()
         & (level.interest.in_limits()
-            & (run_in_limits(level.pending)
-                & (run_in_limits(level.first) & run_in_limits(level.second))))
+            & (level.pending.in_limits() & (level.first.in_limits() & level.second.in_limits())))
 }
 
 fn period_in_limits(period: Period) -> bool
@@ -51,8 +44,11 @@ fn dates_in_limits(book: ElectricBook) -> bool
     ensures { λ r. ⌜ r ≡ datesInLimits book ⌝ }
 {
     (book.division <= ElectricBook::LAST_DIVISION)
-        & ((1 <= book.month)
-            & ((book.month <= 12) & (!book.settled | crate::calendar::settles(book.month))))
+        & riders::months::in_limits(
+            book.month,
+            crate::calendar::settles(book.month),
+            book.settled,
+        )
 }
 
 // Whether every value of the book lies within its limits.

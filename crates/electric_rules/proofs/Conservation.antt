@@ -3,17 +3,19 @@
 use mathlib.Core.Path.{_≡_, refl, sym, ap, _∙_, subst}
 use mathlib.Core.Bool.{Bool, true, false, cond, not, true≢false}
 use Prim.Native.Nat.{ℕ}
-use lib.Dec.{T}
+use lib.Dec.{T, leb}
 use lib.IntN.{ℤ, pos, _+ℤ_, _*ℤ_}
+use borrow.Author.Tests.{not-false}
+use Rattle.ints.specs.Flags.{both}
 use Rattle.refusals.specs.Laws.{by-table}
 use Rattle.postings.specs.Kinds.{Kind, cost, sales, bill, settle, monthEnd, adjust, reconcile, unknown, kindOf, tableOf, isNone, unknownKind}
 use Rattle.postings.specs.declared.Book.the-variants.{Electric}
 use Rattle.postings.specs.declared.Posting.{Posting}
 use Rattle.postings.specs.declared.Answer.the-variants.{Done}
+use Rattle.riders.specs.Months.{monthInLimits, settle-allowed, month-to, month-settled, forbidden}
 use Rattle.riders.specs.Histories.{wasAccepted, lineAnswered, kept-after}
 use Rattle.electric_rules.proofs.Waiting.{clear, clear-to-settle, turns, all-turn}
 use Rattle.electric_rules.proofs.Shares.{Shared, fresh-shared, settled-shared, shared-near}
-use Rattle.electric_rules.proofs.Accepted.{settle-allowed, month-to, month-settled}
 use Rattle.electric_rules.proofs.LevelSteps.{LevelKept, billed-keeps, adjusted-keeps, settled-keeps, ended-keeps}
 use Rattle.electric_rules.specs.declared.Rates.{Rates}
 use Rattle.electric_rules.specs.declared.Period.{Period}
@@ -22,15 +24,16 @@ use Rattle.electric_rules.specs.declared.Level.{Level}
 use Rattle.electric_rules.specs.declared.ElectricBook.{ElectricBook}
 use Rattle.electric_rules.specs.declared.Posted.{Posted}
 use Rattle.electric_rules.specs.Book.{salesOf, periodOf, posted, refused, freshLevel, freshOf, openedOf}
-use Rattle.electric_rules.specs.Calendar.{entering}
+use Rattle.electric_rules.specs.Calendar.{settles, entering}
 use Rattle.electric_rules.specs.Rates.{ratesOf}
 use Rattle.electric_rules.specs.Settlement.{remainderAfter, secondaryShare, primaryShare}
 use Rattle.electric_rules.specs.Levels.{heldBy}
 use Rattle.electric_rules.specs.Next.{withPeriod, withLevels, isSecondary, costPosted, salesPosted, billPosted, settlePosted, monthEnded, adjustPosted, nextAt, lineAnswer, filedAnswer, interestAnswer, answerAt}
-use Rattle.electric_rules.specs.Limits.{inLimits}
-use Rattle.electric_rules.specs.Refusals.{forbidden, postOf}
+use Rattle.electric_rules.specs.Limits.{datesInLimits, inLimits}
+use Rattle.electric_rules.specs.Refusals.{postOf}
 use Rattle.electric_rules.specs.Tally.{LevelTally, Tally, freshLevelTally, freshTally, withPeriodTally, withLevelTallies, costCounted, salesCounted, lineCounted, shareCounted, settleCounted, interestCounted, adjustmentCounted, countAt, countOf}
 use Rattle.electric_rules.specs.Claim.{Balances, leftBy, answeredBy, NoCentLost}
+use Rattle.riders.specs.Waiting as waiting
 
 -- nothing can be pending
 abbrev clearIn : ElectricBook → Bool
@@ -105,10 +108,10 @@ module _ (rates : Rates) (b : ElectricBook) (t : Tally) (p : Posting) (k : Kept 
   unfolding nextAt answerAt countAt adjustPosted adjustmentCounted
   adjust-keeps = one-level (isSecondary (p .first)) _ _ refl (adjusted-keeps _ _ (level-kept (isSecondary (p .first))) (p .second))
 
-  settle-keeps : forbidden settle b ≡ false → Keeps settle
-  unfolding nextAt answerAt countAt settlePosted filedAnswer settleCounted shareCounted clear
+  settle-keeps : forbidden settle (settles (b .month)) (b .settled) ≡ false → Keeps settle
+  unfolding nextAt answerAt countAt settlePosted filedAnswer settleCounted shareCounted waiting.clear
   settle-keeps allowed =
-      let now = settle-allowed b allowed in
+      let now = settle-allowed (settles (b .month)) (b .settled) allowed in
       let nothing : clearIn b ≡ true = ap (clear (b .month)) (now .0) ∙ clear-to-settle (b .month) (now .1) in
       record {
         division = k .division;
@@ -118,10 +121,14 @@ module _ (rates : Rates) (b : ElectricBook) (t : Tally) (p : Posting) (k : Kept 
         shares = settled-shared rates t (k .shares);
       }
 
-  month-keeps : not (inLimits b) ≡ false → forbidden monthEnd b ≡ false → Keeps monthEnd
+  dates : not (inLimits b) ≡ false → monthInLimits (b .month) (settles (b .month)) (b .settled) ≡ true
+  unfolding inLimits datesInLimits
+  dates e = both (leb (b .division) 1) _ (both (datesInLimits b) _ (not-false _ e) .0) .1
+
+  month-keeps : not (inLimits b) ≡ false → forbidden monthEnd (settles (b .month)) (b .settled) ≡ false → Keeps monthEnd
   unfolding nextAt answerAt countAt monthEnded interestAnswer interestCounted
   month-keeps limits allowed =
-      let turn = subst (λ (settled : Bool). T (turns (b .month) settled)) (sym (month-settled b limits allowed)) (all-turn (b .month) (month-to b limits)) in
+      let turn = subst (λ (settled : Bool). T (turns (b .month) settled)) (sym (month-settled _ _ (b .month) (dates limits) allowed)) (all-turn (b .month) (month-to _ _ (b .month) (dates limits))) in
       record {
         division = k .division;
         period = k .period;
@@ -130,7 +137,7 @@ module _ (rates : Rates) (b : ElectricBook) (t : Tally) (p : Posting) (k : Kept 
         shares = k .shares;
       }
 
-  kind-keeps : (kind : Kind) → isNone (tableOf Electric kind) ≡ false → not (inLimits b) ≡ false → forbidden kind b ≡ false → Keeps kind
+  kind-keeps : (kind : Kind) → isNone (tableOf Electric kind) ≡ false → not (inLimits b) ≡ false → forbidden kind (settles (b .month)) (b .settled) ≡ false → Keeps kind
   kind-keeps cost known limits allowed = cost-keeps
   kind-keeps sales known limits allowed = sales-keeps
   kind-keeps bill known limits allowed = bill-keeps

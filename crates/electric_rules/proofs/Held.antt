@@ -8,9 +8,9 @@ use lib.Dec.{T, eqb}
 use lib.IntN.{ℤ, pos, negℤ, _+ℤ_, _-ℤ_}
 use Rattle.ints.specs.Ring.{Over, ForAll, Holds, numbered, sidesAgree, solve, eq-by, _:+_, _:-_, _:*_, _:=_, #, neg}
 use Rattle.riders.specs.Lines.{partOf, parts-make-line}
+use Rattle.riders.specs.Runs.{noRun}
 use Rattle.electric_rules.proofs.Waiting.{enters}
 use Rattle.electric_rules.specs.declared.Level.{Level}
-use Rattle.electric_rules.specs.Book.{noRun}
 use Rattle.electric_rules.specs.Levels.{heldBy, factorsOf, levelLine, billedLevel, adjustedLevel, owedBy, settledLevel, bearingOf, interestOn, accruedLevel, handedOver}
 
 abbrev fiveAnd : ℕ → ℕ

@@ -6,10 +6,10 @@ use lib.Dec.{T}
 use lib.IntN.{ℤ, pos, _+ℤ_, _-ℤ_}
 use Rattle.ints.specs.Flags.{T-true}
 use Rattle.ints.specs.Ring.{solve, eq-by, _:+_, _:-_, _:*_, _:=_, #}
+use Rattle.riders.specs.Runs.{noRun}
 use Rattle.electric_rules.proofs.Waiting.{enters}
 use Rattle.electric_rules.proofs.Held.{held-billed, held-adjusted, held-settled, held-accrued, bearing-held, handed-over}
 use Rattle.electric_rules.specs.declared.Level.{Level}
-use Rattle.electric_rules.specs.Book.{noRun}
 use Rattle.electric_rules.specs.Levels.{heldBy, levelLine, billedLevel, adjustedLevel, settledLevel, bearingOf, interestOn, accruedLevel, handedOver}
 use Rattle.electric_rules.specs.Tally.{LevelTally, lineCounted, shareCounted, balanceOf, interestCounted, adjustmentCounted}
 use Rattle.electric_rules.specs.Claim.{LevelBalances}

@@ -2,7 +2,6 @@
 pub mod Waiting
 pub mod Held
 pub mod Shares
-pub mod Accepted
 pub mod LevelSteps
 pub mod Conservation
 pub mod Refused

@@ -5,12 +5,13 @@ use Prim.Native.Nat.{ℕ}
 use lib.Dec.{ltb}
 use lib.IntN.{ℤ, pos}
 use Rattle.refusals.specs.Rows.{row, byTable}
-use Rattle.amounts.specs.Amounts.{cents, points}
+use Rattle.amounts.specs.Amounts.{cents}
 use Rattle.postings.specs.declared.Answer.{Answer}
 use Rattle.postings.specs.declared.Answer.the-variants.{Done, Refused}
+use Rattle.riders.specs.declared.Run.{Run}
+use Rattle.riders.specs.Runs.{noRun}
 use Rattle.electric_rules.specs.declared.Kwh.{Kwh}
 use Rattle.electric_rules.specs.declared.Remainder.{Remainder}
-use Rattle.electric_rules.specs.declared.Run.{Run}
 use Rattle.electric_rules.specs.declared.Level.{Level}
 use Rattle.electric_rules.specs.declared.Sales.{Sales}
 use Rattle.electric_rules.specs.declared.Period.{Period}
@@ -28,13 +29,6 @@ salesOf secondary primary = record { secondary = kwh secondary; primary = kwh pr
 
 abbrev pub periodOf : ℤ → Sales → ℤ → Period
 periodOf cost sales rem = record { cost = cents cost; sales = sales; remainder = remainder rem }
-
--- a factor and cents due
-abbrev pub run : ℤ → ℤ → Run
-run factor due = record { factor = points factor; due = cents due }
-
-abbrev pub noRun : Run
-noRun = run (pos 0) (pos 0)
 
 -- C and I, then pending and the two runs
 abbrev pub levelOf : ℤ → ℤ → Run → Run → Run → Level

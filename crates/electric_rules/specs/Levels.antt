@@ -3,14 +3,15 @@ use mathlib.Core.Bool.{cond}
 use mathlib.Core.List.{List, [], _∷_}
 use Prim.Native.Nat.{ℕ}
 use lib.Dec.{eqb}
-use lib.IntN.{ℤ, pos, _+ℤ_, _-ℤ_, _*ℤ_}
+use lib.IntN.{ℤ, pos, _+ℤ_, _*ℤ_}
 use Rattle.rounding.specs.Round.{round}
 use Rattle.amounts.specs.Amounts.{cents}
 use Rattle.amounts.specs.declared.Points.{Points}
 use Rattle.riders.specs.Lines.{lineOf, partOf}
-use Rattle.electric_rules.specs.declared.Run.{Run}
+use Rattle.riders.specs.declared.Run.{Run}
+use Rattle.riders.specs.Runs.{run, noRun, dueLess, factorFor}
 use Rattle.electric_rules.specs.declared.Level.{Level}
-use Rattle.electric_rules.specs.Book.{run, noRun, levelOf}
+use Rattle.electric_rules.specs.Book.{levelOf}
 
 -- cents held: C + I + Q + d1 + d2
 unfoldable pub heldBy : Level → ℤ
@@ -23,9 +24,6 @@ factorsOf l = l .first .factor ∷ l .second .factor ∷ []
 
 unfoldable pub levelLine : ℤ → Level → ℤ
 levelLine u l = lineOf u (factorsOf l)
-
-abbrev pub dueLess : ℤ → Run → Run
-dueLess part r = record { factor = r .factor; due = cents (r .due .0 -ℤ part) }
 
 unfoldable pub billedLevel : ℤ → Level → Level
 billedLevel u l =
@@ -49,14 +47,11 @@ adjustedLevel amount l =
 unfoldable pub owedBy : ℤ → Level → ℤ
 owedBy share l = share +ℤ l .carried .0 +ℤ l .interest .0
 
--- q = round(100 × Q / estimated sales)
-unfoldable pub factorFor : ℤ → ℤ → ℤ
-factorFor owed estimate = round (pos 100 *ℤ owed) estimate
-
 -- what was filed is pending; C and I become 0
 abbrev pub filedLevel : Run → Level → Level
 filedLevel filed l = levelOf (pos 0) (pos 0) filed (l .first) (l .second)
 
+-- q = round(100 × Q / estimated sales)
 unfoldable pub settledLevel : ℤ → ℤ → Level → Level
 settledLevel share estimate l = filedLevel (run (factorFor (owedBy share l) estimate) (owedBy share l)) l
 

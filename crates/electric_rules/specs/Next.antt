@@ -9,12 +9,13 @@ use Rattle.postings.specs.Kinds.{Kind, cost, sales, bill, settle, monthEnd, adj
 use Rattle.postings.specs.declared.Posting.{Posting}
 use Rattle.postings.specs.declared.Answer.{Answer}
 use Rattle.postings.specs.declared.Answer.the-variants.{Line, FiledLevels, Interest, Done}
+use Rattle.riders.specs.Months.{monthAfter}
 use Rattle.electric_rules.specs.declared.Remainder.{Remainder}
 use Rattle.electric_rules.specs.declared.Level.{Level}
 use Rattle.electric_rules.specs.declared.Period.{Period}
 use Rattle.electric_rules.specs.declared.ElectricBook.{ElectricBook}
 use Rattle.electric_rules.specs.Book.{remainder, salesOf}
-use Rattle.electric_rules.specs.Calendar.{entering, monthAfter}
+use Rattle.electric_rules.specs.Calendar.{entering}
 use Rattle.electric_rules.specs.Rates.{ratesOf}
 use Rattle.electric_rules.specs.Settlement.{remainderAfter, secondaryShare, primaryShare}
 use Rattle.electric_rules.specs.Levels.{levelLine, billedLevel, adjustedLevel, settledLevel, bearingOf, interestOn, accruedLevel, handedOver}

@@ -7,18 +7,14 @@ use lib.IntN.{pos, negℤ}
 use borrow.Author.Tests.{leb-true}
 use Rattle.ints.specs.Flags.{both}
 use Rattle.ints.specs.Range.{Between, Within, inRange-true}
-use Rattle.amounts.specs.Amounts.{centsInLimits, pointsInLimits, cents-within, points-within}
+use Rattle.amounts.specs.Amounts.{centsInLimits, cents-within}
+use Rattle.riders.specs.Runs.{runInLimits, RunWithin, run-within}
 use Rattle.electric_rules.specs.declared.Kwh.{Kwh}
 use Rattle.electric_rules.specs.declared.Remainder.{Remainder}
-use Rattle.electric_rules.specs.declared.Run.{Run}
 use Rattle.electric_rules.specs.declared.Level.{Level}
 use Rattle.electric_rules.specs.declared.Period.{Period}
 use Rattle.electric_rules.specs.declared.ElectricBook.{ElectricBook}
-use Rattle.electric_rules.specs.Limits.{kwhInLimits, remainderInLimits, runInLimits, levelInLimits, periodInLimits, datesInLimits, inLimits}
-
-pub record RunWithin (r : Run) : Type 0 where
-  pub factor : Within 99999 (r .factor .0)
-  pub due : Within 1000000000000 (r .due .0)
+use Rattle.electric_rules.specs.Limits.{kwhInLimits, remainderInLimits, levelInLimits, periodInLimits, datesInLimits, inLimits}
 
 pub record LevelWithin (l : Level) : Type 0 where
   pub carried : Within 1000000000000 (l .carried .0)
@@ -46,12 +42,6 @@ kwh-within sales e = inRange-true (pos 0) (pos 10000000000) (sales .0) e
 remainder-within : (rem : Remainder) → remainderInLimits rem ≡ true → Within 50000 (rem .0)
 unfolding remainderInLimits
 remainder-within rem e = inRange-true (negℤ (pos 50000)) (pos 50000) (rem .0) e
-
-run-within : (r : Run) → runInLimits r ≡ true → RunWithin r
-unfolding runInLimits
-run-within r e =
-    let p = both (pointsInLimits (r .factor)) _ e in
-    record { factor = points-within (r .factor) (p .0); due = cents-within (r .due) (p .1) }
 
 level-within : (l : Level) → levelInLimits l ≡ true → LevelWithin l
 unfolding levelInLimits

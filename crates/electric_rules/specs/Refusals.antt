@@ -1,5 +1,5 @@
 -- Which postings to the electric book are refused, with which number (01, Refusals in order of checking), and so what a posting gives.
-use mathlib.Core.Bool.{Bool, false, not, _&&_, _||_}
+use mathlib.Core.Bool.{Bool, false, not}
 use mathlib.Core.List.{List, [], _∷_, _++_}
 use Prim.Native.Nat.{ℕ}
 use lib.IntN.{pos, _+ℤ_}
@@ -8,23 +8,13 @@ use Rattle.refusals.specs.Rows.{Row, row, refusalBy, byTable}
 use Rattle.postings.specs.Kinds.{Kind, cost, sales, bill, settle, monthEnd, adjust, reconcile, unknown, kindOf, unknownKind, strayNumber, outOfRange}
 use Rattle.postings.specs.declared.Book.the-variants.{Electric}
 use Rattle.postings.specs.declared.Posting.{Posting}
+use Rattle.riders.specs.Months.{forbidden}
 use Rattle.electric_rules.specs.declared.ElectricBook.{ElectricBook}
 use Rattle.electric_rules.specs.declared.Posted.{Posted}
 use Rattle.electric_rules.specs.Book.{posted, refused}
 use Rattle.electric_rules.specs.Calendar.{settles}
 use Rattle.electric_rules.specs.Limits.{inLimits}
 use Rattle.electric_rules.specs.Next.{nextOf, answerOf}
-
--- 8: month or settled state forbids it
-unfoldable pub forbidden : Kind → ElectricBook → Bool
-forbidden cost b = b .settled
-forbidden sales b = b .settled
-forbidden bill b = false
-forbidden settle b = b .settled || not (settles (b .month))
-forbidden monthEnd b = settles (b .month) && not (b .settled)
-forbidden adjust b = false
-forbidden reconcile b = false
-forbidden unknown b = false
 
 -- 10: settle with Ss + Sp = 0
 unfoldable pub nothingSold : Kind → ElectricBook → Bool
@@ -44,7 +34,7 @@ rowsBefore b p =
     ∷ row 3 (strayNumber Electric p)
     ∷ row 6 (not (inLimits b))
     ∷ row 7 (outOfRange Electric p)
-    ∷ row 8 (forbidden (kindOf (p .kind)) b)
+    ∷ row 8 (forbidden (kindOf (p .kind)) (settles (b .month)) (b .settled))
     ∷ row 10 (nothingSold (kindOf (p .kind)) b)
     ∷ []
 

@@ -1,10 +1,11 @@
 // The electric book: its types, its opening and its limits. What a posting does to it is said in specs/, with the claim that no cent is
 // lost over any list of postings.
 use amounts::Cents;
-use amounts::Points;
 use postings::Answer;
+use riders::Run;
 ghost use mathlib.Core.Path.{_≡_};
-ghost use Rattle.electric_rules.specs.Book.{noRun, freshLevel, freshOf, openedOf};
+ghost use Rattle.riders.specs.Runs.{noRun};
+ghost use Rattle.electric_rules.specs.Book.{freshLevel, freshOf, openedOf};
 
 // Sales in kWh.
 #[repr(C)]
@@ -13,13 +14,6 @@ pub struct Kwh(pub i64);
 // What rounding left of the customers' shares, in hundred-thousandths of a cent: document 01's rem.
 #[repr(C)]
 pub struct Remainder(pub i64);
-
-// A factor and the cents that are due under it: document 01's f and d, or q and Q while it is pending.
-#[repr(C)]
-pub struct Run {
-    pub factor: Points,
-    pub due: Cents,
-}
 
 // A voltage level: document 01's C, I, pending run and two runs.
 #[repr(C)]
@@ -133,18 +127,6 @@ impl Level {
             pending: none,
             first: none,
             second: none,
-        }
-    }
-}
-
-impl Run {
-    // No factor and nothing due.
-    pub fn none() -> Run
-        ensures { λ r. ⌜ r ≡ noRun ⌝ }
-    {
-        Run {
-            factor: Points(0),
-            due: Cents(0),
         }
     }
 }

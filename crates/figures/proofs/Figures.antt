@@ -8,15 +8,17 @@ use Rattle.refusals.specs.Rows.{refusalBy, byTable}
 use Rattle.amounts.specs.Amounts.{centsInLimits, pointsInLimits}
 use Rattle.amounts.specs.Text.{centsText, textOf, signOf, decimal, widthOf, widthIn}
 use Rattle.postings.specs.Kinds.{kindOf, unknownKind, fieldsOf, standsBeyond, strayNumber, outOfRange}
+use Rattle.riders.specs.Runs.{factorFor, runInLimits}
+use Rattle.riders.specs.Months.{monthInLimits, forbidden}
 use Rattle.electric_rules.specs.Calendar.{settles}
 use Rattle.electric_rules.specs.Rates.{ratesOf}
 use Rattle.electric_rules.specs.Settlement.{varianceOf, shareableOf, shareOf, remainderAfter, weightBy, secondaryShare, primaryShare}
-use Rattle.electric_rules.specs.Levels.{owedBy, factorFor, settledLevel, interestOn}
+use Rattle.electric_rules.specs.Levels.{owedBy, settledLevel, interestOn}
 use Rattle.electric_rules.specs.Next.{settlePosted, nextAt, filedAnswer, answerAt}
-use Rattle.electric_rules.specs.Limits.{kwhInLimits, remainderInLimits, runInLimits, levelInLimits, periodInLimits, datesInLimits, inLimits}
-use Rattle.electric_rules.specs.Refusals.{forbidden, nothingSold, postOf}
+use Rattle.electric_rules.specs.Limits.{kwhInLimits, remainderInLimits, levelInLimits, periodInLimits, datesInLimits, inLimits}
+use Rattle.electric_rules.specs.Refusals.{nothingSold, postOf}
 use Rattle.figures.specs.Figures.{FiguresHold}
 
 pub figures-hold : FiguresHold
-unfolding round nearestOf roundedOf tieOf centsText textOf signOf decimal widthOf widthIn digits inRange weightOf refusalBy byTable centsInLimits pointsInLimits kindOf unknownKind fieldsOf standsBeyond strayNumber outOfRange settles ratesOf varianceOf shareableOf shareOf remainderAfter weightBy secondaryShare primaryShare owedBy factorFor settledLevel interestOn settlePosted nextAt filedAnswer answerAt kwhInLimits remainderInLimits runInLimits levelInLimits periodInLimits datesInLimits inLimits forbidden nothingSold postOf
+unfolding round nearestOf roundedOf tieOf centsText textOf signOf decimal widthOf widthIn digits inRange weightOf refusalBy byTable centsInLimits pointsInLimits kindOf unknownKind fieldsOf standsBeyond strayNumber outOfRange settles ratesOf varianceOf shareableOf shareOf remainderAfter weightBy secondaryShare primaryShare owedBy factorFor settledLevel interestOn settlePosted nextAt filedAnswer answerAt kwhInLimits remainderInLimits runInLimits levelInLimits periodInLimits datesInLimits inLimits monthInLimits forbidden nothingSold postOf
 figures-hold = refl

@@ -1,3 +1,7 @@
--- What the riders of both books share: a bill's line with its parts, and histories.
+-- What the riders of both books share: the months of a year, runs, a bill's line with its parts, and histories; for the proofs of both
+-- claims, when nothing can be pending.
+pub mod Months
+pub mod Runs
 pub mod Lines
 pub mod Histories
+pub mod Waiting

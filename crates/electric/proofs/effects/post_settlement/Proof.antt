@@ -10,7 +10,7 @@ use Rattle.ints.specs.Range.{Within, between-same}
 use Rattle.ints.specs.Bound.{b-between, fits64}
 use Rattle.postings.specs.declared.Answer.the-variants.{FiledLevels}
 use Rattle.electric_rules.specs.declared.Rates.{Rates}
-use Rattle.electric_rules.specs.declared.Run.{Run}
+use Rattle.riders.specs.declared.Run.{Run}
 use Rattle.electric_rules.specs.Book.{posted}
 use Rattle.electric_rules.specs.Levels.{filedLevel}
 use Rattle.electric_rules.specs.Next.{settledWith}

@@ -7,10 +7,9 @@ use Rattle.ints.specs.Bound.{bounds, fits64}
 use Rattle.ints.specs.Exact.{exacts, e-eq, exact}
 use Rattle.rounding.specs.Laws.{rounds-any}
 use Rattle.amounts.specs.Amounts.{points}
-use Rattle.electric_rules.specs.Levels.{owedBy, factorFor}
-use Rattle.electric.proofs.Settling.{same-run}
+use Rattle.riders.specs.Runs.{factorFor, same-run, narrowed}
+use Rattle.electric_rules.specs.Levels.{owedBy}
 use Rattle.electric.proofs.filing.filing_of.Statement.{statement}
-use Rattle.electric.specs.Filings.{narrowed}
 use Rattle.electric.proofs.filing.filing_of.Tie as tie
 
 add-owed : tie.Need-add-owed
@@ -25,16 +24,16 @@ mul-round-div c = fits64 (search bounds depth 30) tt
 round-div-requires : tie.Need-round-div-requires
 round-div-requires c κs = search needs
 
-factor-of-requires : tie.Need-factor-of-requires
-factor-of-requires c κs = search needs
+factor-requires : tie.Need-factor-requires
+factor-requires c κs = search needs
 
 returns : tie.Need-returns
 unfolding owedBy factorFor
 returns c = let s = c .before .before .before .before .before .before .before .before .before .args in
     let e : toZ w64 (ofZ w64 (c .before .round-div .result)) ≡ factorFor (owedBy (s .share .0) (s .level)) (s .estimate .0) = exact (search (exacts, rounds-any, e-eq) depth 30) tt in
-    same-run (c .factor-of .ensures ∙ (λ i. points (narrowed (e i)))) (exact (search exacts depth 30) tt)
+    same-run (c .factor .ensures ∙ (λ i. points (narrowed (e i)))) (exact (search exacts depth 30) tt)
 
 pub filing-of-spec : {M : Type 1} → statement M
 filing-of-spec =
     tie.close
-    (tie.spec add-owed add-owed-2 mul-round-div round-div-requires factor-of-requires returns)
+    (tie.spec add-owed add-owed-2 mul-round-div round-div-requires factor-requires returns)

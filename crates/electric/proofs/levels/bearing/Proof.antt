@@ -1,8 +1,8 @@
 -- `levels::bearing` is the balance that bears interest. Assumes nothing.
 use Rattle.ints.specs.Bound.{bounds, fits64}
 use Rattle.ints.specs.Exact.{exacts, exact}
+use Rattle.amounts.specs.Amounts.{same-cents}
 use Rattle.electric_rules.specs.Levels.{bearingOf}
-use Rattle.electric.proofs.Parts.{same-cents}
 use Rattle.electric.proofs.levels.bearing.Statement.{statement}
 use Rattle.electric.proofs.levels.bearing.Tie as tie
 

@@ -2,7 +2,8 @@
 use mathlib.Core.Path.{_∙_}
 use borrow.Author.Needs.{needs}
 use Rattle.ints.specs.Range.{between-same}
-use Rattle.electric_rules.specs.Levels.{dueLess, billedLevel}
+use Rattle.riders.specs.Runs.{dueLess}
+use Rattle.electric_rules.specs.Levels.{billedLevel}
 use Rattle.electric.proofs.Bills.{first-within, second-within}
 use Rattle.electric.proofs.levels.billed.Statement.{statement}
 use Rattle.electric.proofs.levels.billed.Tie as tie

@@ -1,6 +1,7 @@
 -- `levels::due_less` takes the part from the due cents. Assumes nothing.
 use Rattle.ints.specs.Exact.{exacts, exact}
 use Rattle.ints.specs.Bound.{bounds, fits64}
+use Rattle.riders.specs.Runs.{run}
 use Rattle.electric.proofs.Parts.{same-due}
 use Rattle.electric.proofs.levels.due_less.Statement.{statement}
 use Rattle.electric.proofs.levels.due_less.Tie as tie

@@ -2,8 +2,8 @@
 use mathlib.Core.Path.{sym, ap, _∙_, subst}
 use borrow.Author.Needs.{needs}
 use Rattle.ints.specs.Range.{Within}
+use Rattle.riders.specs.Runs.{RunWithin}
 use Rattle.electric_rules.specs.Levels.{accruedLevel, handedOver}
-use Rattle.electric_rules.specs.Ranges.{RunWithin}
 use Rattle.electric_rules.specs.declared.Level.{Level}
 use Rattle.electric.proofs.levels.ended.Statement.{statement}
 use Rattle.electric.proofs.levels.ended.Tie as tie

@@ -9,8 +9,8 @@ use Rattle.ints.specs.Bound.{bounds, fits64}
 use Rattle.ints.specs.Exact.{exacts, e-eq, exact}
 use Rattle.rounding.specs.Round.{round}
 use Rattle.rounding.specs.Laws.{rounds}
+use Rattle.amounts.specs.Amounts.{same-cents}
 use Rattle.electric_rules.specs.Levels.{interestOn}
-use Rattle.electric.proofs.Parts.{same-cents}
 use Rattle.electric.proofs.Bills.{bearing-within}
 use Rattle.electric.proofs.levels.interest.Statement.{statement}
 use Rattle.electric.proofs.levels.interest.Tie as tie

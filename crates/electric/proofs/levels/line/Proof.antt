@@ -8,7 +8,7 @@ use Rattle.rounding.specs.Round.{round}
 use Rattle.ints.specs.Exact.{exacts, e-eq, exact}
 use Rattle.rounding.specs.Laws.{rounds}
 use Rattle.ints.specs.Bound.{bounds, fits64}
-use Rattle.electric.proofs.Parts.{same-cents}
+use Rattle.amounts.specs.Amounts.{same-cents}
 use Rattle.electric.proofs.Bills.{line-is}
 use Rattle.electric.proofs.levels.line.Statement.{statement}
 use Rattle.electric.proofs.levels.line.Tie as tie

@@ -6,7 +6,7 @@ use mir.Val.{toZ, ofZ}
 use Rattle.ints.specs.Exact.{exacts, exact}
 use Rattle.ints.specs.Range.{Within, between-same}
 use Rattle.ints.specs.Bound.{bounds, fits64}
-use Rattle.electric.proofs.Parts.{same-cents}
+use Rattle.amounts.specs.Amounts.{same-cents}
 use Rattle.electric.proofs.Bills.{line-within, first-within, second-is}
 use Rattle.electric.proofs.levels.second_part.Statement.{statement}
 use Rattle.electric.proofs.levels.second_part.Tie as tie

@@ -5,10 +5,10 @@ use mir.Syntax.{w64}
 use mir.Val.{toZ, ofZ}
 use Rattle.ints.specs.Exact.{exacts, exact}
 use Rattle.ints.specs.Range.{Within, between-same}
+use Rattle.amounts.specs.Amounts.{same-cents}
 use Rattle.electric_rules.specs.Settlement.{primaryShare}
 use Rattle.electric_rules.specs.Sizes.{share-within, secondary-within}
 use Rattle.ints.specs.Bound.{bounds, fits64}
-use Rattle.electric.proofs.Parts.{same-cents}
 use Rattle.electric.proofs.settlement.primary_share.Statement.{statement}
 use Rattle.electric.proofs.settlement.primary_share.Tie as tie
 

@@ -8,10 +8,10 @@ use Rattle.ints.specs.Exact.{exacts, e-eq, exact}
 use Rattle.ints.specs.Range.{Between, Within, between-same}
 use Rattle.rounding.specs.Laws.{rounds}
 use Rattle.rounding.specs.Round.{round}
+use Rattle.amounts.specs.Amounts.{same-cents}
 use Rattle.electric_rules.specs.Settlement.{secondaryShare}
 use Rattle.electric_rules.specs.Sizes.{share-within, weight-within}
 use Rattle.ints.specs.Bound.{bounds, fits64}
-use Rattle.electric.proofs.Parts.{same-cents}
 use Rattle.electric.proofs.settlement.secondary_share.Statement.{statement}
 use Rattle.electric.proofs.settlement.secondary_share.Tie as tie
 

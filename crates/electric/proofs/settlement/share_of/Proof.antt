@@ -8,9 +8,9 @@ use Rattle.ints.specs.Exact.{exacts, e-eq, exact}
 use Rattle.ints.specs.Range.{Within, between-same}
 use Rattle.rounding.specs.Laws.{rounds}
 use Rattle.rounding.specs.Round.{round}
+use Rattle.amounts.specs.Amounts.{same-cents}
 use Rattle.electric_rules.specs.Settlement.{shareOf}
 use Rattle.electric_rules.specs.Sizes.{shareable-within}
-use Rattle.electric.proofs.Parts.{same-cents}
 use Rattle.electric.proofs.settlement.share_of.Statement.{statement}
 use Rattle.electric.proofs.settlement.share_of.Tie as tie
 

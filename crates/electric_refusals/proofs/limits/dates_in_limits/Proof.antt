@@ -1,7 +1,9 @@
 -- `limits::dates_in_limits` tests the division, the month and what is settled. Assumes nothing.
-use mathlib.Core.Bool.{not, _&&_, _||_}
+use mathlib.Core.Path.{ap, _∙_}
+use mathlib.Core.Bool.{Bool, _&&_}
 use lib.Dec.{leb}
 use borrow.Author.Needs.{needs}
+use Rattle.riders.specs.Months.{monthInLimits}
 use Rattle.electric_rules.specs.Limits.{datesInLimits}
 use Rattle.electric_refusals.proofs.limits.dates_in_limits.Statement.{statement}
 use Rattle.electric_refusals.proofs.limits.dates_in_limits.Tie as tie
@@ -9,10 +11,13 @@ use Rattle.electric_refusals.proofs.limits.dates_in_limits.Tie as tie
 settles-requires : tie.Need-settles-requires
 settles-requires c κs = search needs
 
+in-limits-requires : tie.Need-in-limits-requires
+in-limits-requires c κs = search needs
+
 returns : tie.Need-returns
 unfolding datesInLimits
-returns c = let s = c .before .before .before .before .before .args .book in
-    λ i. leb (s .division) 1 && (leb 1 (s .month) && (leb (s .month) 12 && (not (s .settled) || c .settles .ensures i)))
+returns c = let s = c .before .before .before .args .book in
+    ap (λ (t : Bool). leb (s .division) 1 && t) (c .in-limits .ensures ∙ ap (λ (t : Bool). monthInLimits (s .month) t (s .settled)) (c .before .settles .ensures))
 
 pub dates-in-limits-spec : {M : Type 1} → statement M
-dates-in-limits-spec = tie.close (tie.spec settles-requires returns)
+dates-in-limits-spec = tie.close (tie.spec settles-requires in-limits-requires returns)

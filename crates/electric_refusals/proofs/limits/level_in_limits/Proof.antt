@@ -11,20 +11,20 @@ in-limits-requires c κs = search needs
 in-limits-requires-2 : tie.Need-in-limits-requires-2
 in-limits-requires-2 c κs = search needs
 
-run-in-limits-requires : tie.Need-run-in-limits-requires
-run-in-limits-requires c κs = search needs
+in-limits-requires-3 : tie.Need-in-limits-requires-3
+in-limits-requires-3 c κs = search needs
 
-run-in-limits-requires-2 : tie.Need-run-in-limits-requires-2
-run-in-limits-requires-2 c κs = search needs
+in-limits-requires-4 : tie.Need-in-limits-requires-4
+in-limits-requires-4 c κs = search needs
 
-run-in-limits-requires-3 : tie.Need-run-in-limits-requires-3
-run-in-limits-requires-3 c κs = search needs
+in-limits-requires-5 : tie.Need-in-limits-requires-5
+in-limits-requires-5 c κs = search needs
 
 returns : tie.Need-returns
 unfolding levelInLimits
 returns c = λ i.
     c .before .before .before .before .in-limits .ensures i && (c .before .before .before .in-limits2 .ensures i
-    && (c .before .before .run-in-limits .ensures i && (c .before .run-in-limits2 .ensures i && c .run-in-limits3 .ensures i)))
+    && (c .before .before .in-limits3 .ensures i && (c .before .in-limits4 .ensures i && c .in-limits5 .ensures i)))
 
 pub level-in-limits-spec : {M : Type 1} → statement M
 level-in-limits-spec =
@@ -32,7 +32,7 @@ level-in-limits-spec =
     (tie.spec
     in-limits-requires
     in-limits-requires-2
-    run-in-limits-requires
-    run-in-limits-requires-2
-    run-in-limits-requires-3
+    in-limits-requires-3
+    in-limits-requires-4
+    in-limits-requires-5
     returns)

@@ -1,10 +1,10 @@
--- `calendar::month_after` moves the month on as the rules do. Assumes nothing.
+-- `months::month_after` moves the month on as the rules do. Assumes nothing.
 use mathlib.Core.Path.{sym}
 use borrow.Author.Tests.{lt-ltb, le-ltb}
 use borrow.Author.Needs.{needs}
-use Rattle.electric_rules.specs.Calendar.{monthAfter}
-use Rattle.electric_refusals.proofs.calendar.month_after.Statement.{statement}
-use Rattle.electric_refusals.proofs.calendar.month_after.Tie as tie
+use Rattle.riders.proofs.months.month_after.Statement.{statement}
+use Rattle.riders.specs.Months.{monthAfter}
+use Rattle.riders.proofs.months.month_after.Tie as tie
 
 add-result : tie.Need-add-result
 add-result c = search needs

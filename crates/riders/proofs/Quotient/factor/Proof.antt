@@ -1,4 +1,4 @@
--- `filing::factor_of` narrows a factor that a book may store, and gives one past the most for any other. Assumes nothing.
+-- `Quotient::factor` narrows a factor that a book may store, and gives one past the most for any other. Assumes nothing.
 use mathlib.Core.Path.{_≡_, sym, _∙_}
 use mathlib.Core.Bool.{true}
 use lib.IntN.{pos, negℤ}
@@ -9,11 +9,10 @@ use Rattle.ints.specs.Exact.{exacts, exact}
 use Rattle.ints.specs.Bound.{bounds, fits32}
 use Rattle.ints.specs.Machine.{tested}
 use Rattle.ints.specs.Range.{inRange}
-use Rattle.amounts.specs.Amounts.{points, pointsInLimits, points-within}
-use Rattle.electric.proofs.Parts.{same-points}
-use Rattle.electric.proofs.Settling.{narrowed-in, narrowed-beyond}
-use Rattle.electric.proofs.filing.factor_of.Statement.{statement}
-use Rattle.electric.proofs.filing.factor_of.Tie as tie
+use Rattle.amounts.specs.Amounts.{points, pointsInLimits, points-within, same-points}
+use Rattle.riders.proofs.Quotient.factor.Statement.{statement}
+use Rattle.riders.specs.Runs.{narrowed-in, narrowed-beyond}
+use Rattle.riders.proofs.Quotient.factor.Tie as tie
 
 cast-in-range : tie.Need-cast-in-range
 cast-in-range c = search needs
@@ -24,17 +23,17 @@ cast-in-range-2 c = search needs
 in-range-requires : tie.Need-in-range-requires
 in-range-requires c κs = search needs
 
-inside : (c : tie.Then1) → pointsInLimits (points (c .before .before .before .args .quotient .0)) ≡ true
+inside : (c : tie.Then1) → pointsInLimits (points (c .before .before .before .args .self .0)) ≡ true
 unfolding pointsInLimits
 inside c =
-    let f : SFits w64 (c .before .before .before .args .quotient .0) = search needs in
+    let f : SFits w64 (c .before .before .before .args .self .0) = search needs in
     tested (inRange (negℤ (pos 99999)) (pos 99999)) f (c .before .in-range .ensures) (c .if1 .taken)
 
 cast-t5 : tie.Need-cast-t5
 cast-t5 c = let w = points-within (points _) (inside (c .before .before)) in fits32 (search (bounds, w) depth 30) tt
 
 returns : tie.Need-returns
-returns c = let q = c .before .before .before .before .before .args .quotient .0 in
+returns c = let q = c .before .before .before .before .before .args .self .0 in
     let t = inside (c .before .before) in
     let w = points-within (points q) t in
     let e : toZ w32 (ofZ w32 (toZ w64 (ofZ w64 q))) ≡ q = exact (search (exacts, w) depth 30) tt in
@@ -45,11 +44,11 @@ add-t6 c = search needs
 
 returns-2 : tie.Need-returns-2
 unfolding pointsInLimits
-returns-2 c = let q = c .before .before .before .args .quotient .0 in
+returns-2 c = let q = c .before .before .before .args .self .0 in
     let f : SFits w64 q = search needs in
     same-points (sym (narrowed-beyond q (tested (inRange (negℤ (pos 99999)) (pos 99999)) f (c .before .in-range .ensures) (c .if1 .left))))
 
-pub factor-of-spec : {M : Type 1} → statement M
-factor-of-spec =
+pub factor-spec : {M : Type 1} → statement M
+factor-spec =
     tie.close
     (tie.spec cast-in-range cast-in-range-2 in-range-requires cast-t5 returns add-t6 returns-2)
