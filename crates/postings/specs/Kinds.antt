@@ -1,11 +1,15 @@
 -- Kinds of postings and their fields (01, Posting records): one table a book, from which the reader, the writer and refusals 2, 3 and 7
 -- are worked out.
+use mathlib.Core.Path.{_≡_, sym}
 use mathlib.Core.Bool.{Bool, true, false, not, _&&_, _||_}
 use mathlib.Core.Option.{Option, none, some}
 use mathlib.Core.List.{List, [], _∷_, map}
-use Prim.Native.Nat.{ℕ, zero, suc, _^_}
+use Prim.Native.Nat.{ℕ, zero, suc, _^_, _<_}
+use native.Mathlib.Omega.{arith}
+use lib.Dec.{eqb}
 use lib.IntN.{ℤ, pos, negℤ}
 use lib.ListN.{length, getD, drop}
+use borrow.Author.Tests.{ne-eqb}
 use Rattle.ints.specs.Machine.{eqZ}
 use Rattle.ints.specs.Range.{inRange}
 use Rattle.postings.specs.declared.Book.{Book}
@@ -36,6 +40,21 @@ kinds = unknown ∷ cost ∷ sales ∷ bill ∷ settle ∷ monthEnd ∷ adjust �
 
 unfoldable pub kindOf : ℕ → Kind
 kindOf n = getD kinds n unknown
+
+-- the number of a kind of the table; 0 is none's
+abbrev pub numberOf : Kind → ℕ
+numberOf unknown = 0
+numberOf cost = 1
+numberOf sales = 2
+numberOf bill = 3
+numberOf settle = 4
+numberOf monthEnd = 5
+numberOf adjust = 6
+numberOf reconcile = 7
+
+-- whether a kind is this one
+abbrev pub isKind : Kind → Kind → Bool
+isKind kind other = eqb (numberOf kind) (numberOf other)
 
 -- the paper's table: the fields of each kind, that of bit 0 first; none where the book has no such kind
 abbrev pub tableOf : Book → Kind → Option (List Field)
@@ -130,3 +149,11 @@ by-kind P p1 p2 p3 p4 p5 p6 p7 other (suc (suc (suc (suc (suc zero))))) = p5
 by-kind P p1 p2 p3 p4 p5 p6 p7 other (suc (suc (suc (suc (suc (suc zero)))))) = p6
 by-kind P p1 p2 p3 p4 p5 p6 p7 other (suc (suc (suc (suc (suc (suc (suc zero))))))) = p7
 by-kind P p1 p2 p3 p4 p5 p6 p7 other (suc (suc (suc (suc (suc (suc (suc (suc n)))))))) = other (suc (suc (suc (suc (suc (suc (suc (suc n))))))))
+
+-- another number is of another kind
+pub other-kind : (kind : Kind) → 0 < numberOf kind → (n : ℕ) → (n ≡ numberOf kind → ⊥) → isKind kind (kindOf n) ≡ false
+other-kind kind h =
+    let other : (k : Kind) → (numberOf k ≡ numberOf kind → ⊥) → isKind kind k ≡ false = λ k d. ne-eqb (numberOf kind) (numberOf k) (λ e. d (sym e)) in
+    by-kind (λ n k. (n ≡ numberOf kind → ⊥) → isKind kind k ≡ false)
+    (other cost) (other sales) (other bill) (other settle) (other monthEnd) (other adjust) (other reconcile)
+    (λ n d. other unknown (λ e. omega arith))
