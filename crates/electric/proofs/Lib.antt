@@ -1,6 +1,5 @@
 -- Laws over plain values that the functions' proofs cite.
 pub mod Parts
 pub mod Bills
-pub mod LastRow
 pub mod Settling
 pub mod Ready

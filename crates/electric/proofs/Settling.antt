@@ -1,7 +1,9 @@
 -- A settlement's filings make a book that is stored or refused as the rules' own is: they are the rules' filings where both factors are in
 -- limits, and where one is not, neither book is. Assumes nothing.
-use mathlib.Core.Path.{_≡_, refl, sym, _∙_}
-use mathlib.Core.Bool.{Bool, true, false, _&&_}
+use mathlib.Core.Path.{_≡_, refl, sym, ap, _∙_}
+use mathlib.Core.Bool.{Bool, true, false, not, _&&_}
+use native.Mathlib.Omega.{arith}
+use Rattle.refusals.specs.Laws.{row-holds}
 use lib.IntN.{ℤ}
 use Rattle.amounts.specs.Amounts.{points, pointsInLimits}
 use Rattle.postings.specs.Kinds.{settle}
@@ -11,13 +13,12 @@ use Rattle.riders.specs.Runs.{run, factorFor, runInLimits, narrowed, narrowed-i
 use Rattle.electric_rules.specs.declared.Level.{Level}
 use Rattle.electric_rules.specs.declared.ElectricBook.{ElectricBook}
 use Rattle.electric_rules.specs.declared.Posted.{Posted}
-use Rattle.electric_rules.specs.Book.{remainder, posted}
+use Rattle.electric_rules.specs.Book.{remainder, posted, refused}
 use Rattle.electric_rules.specs.Rates.{ratesOf}
 use Rattle.electric_rules.specs.Settlement.{remainderAfter, secondaryShare, primaryShare}
 use Rattle.electric_rules.specs.Levels.{owedBy, filedLevel, settledLevel}
 use Rattle.electric_rules.specs.Limits.{levelInLimits, inLimits}
 use Rattle.electric_rules.specs.Next.{settledWith, settlePosted, filedAnswer, nextAt, answerAt}
-use Rattle.electric.proofs.LastRow.{out-of-limits-12}
 use Rattle.electric.specs.Stored.{storedOr12, effectAt, StoredAs}
 
 -- ---- a factor out of limits makes a book out of limits
@@ -59,6 +60,10 @@ module _ (b : ElectricBook) (p : Posting) where
       posted (FiledLevels (points f) (points g))
       (settledWith b (remainder (remainderAfter (ratesOf (b .division)) (b .period))) (filedLevel (run f owedSecondary) (b .secondary)) (filedLevel (run g owedPrimary) (b .primary)))
 
+  refused-12 : (next : Posted) → inLimits (next .book) ≡ false → storedOr12 b next ≡ refused b 12
+  unfolding storedOr12
+  refused-12 next e = row-holds 12 _ _ (omega arith) (ap not e)
+
   pub stored-as : StoredAs b (settledAt (narrowed quotientSecondary) (narrowed quotientPrimary)) (effectAt settle b p)
   unfolding nextAt answerAt settlePosted filedAnswer settledLevel
   stored-as = go (pointsInLimits (points quotientSecondary)) refl (pointsInLimits (points quotientPrimary)) refl
@@ -68,6 +73,6 @@ module _ (b : ElectricBook) (p : Posting) where
           storedOr12 b (settledAt (narrowed quotientSecondary) (narrowed quotientPrimary)) ≡ storedOr12 b (settledAt quotientSecondary quotientPrimary)
       go true e true f = λ i. storedOr12 b (settledAt (narrowed-in quotientSecondary e i) (narrowed-in quotientPrimary f i))
       go false e t f =
-          out-of-limits-12 b _ (secondary-out _ (level-out _ (narrowed-out quotientSecondary e))) ∙ sym (out-of-limits-12 b _ (secondary-out _ (level-out _ e)))
+          refused-12 _ (secondary-out _ (level-out _ (narrowed-out quotientSecondary e))) ∙ sym (refused-12 _ (secondary-out _ (level-out _ e)))
       go true e false f =
-          out-of-limits-12 b _ (primary-out _ (level-out _ (narrowed-out quotientPrimary f))) ∙ sym (out-of-limits-12 b _ (primary-out _ (level-out _ f)))
+          refused-12 _ (primary-out _ (level-out _ (narrowed-out quotientPrimary f))) ∙ sym (refused-12 _ (primary-out _ (level-out _ f)))

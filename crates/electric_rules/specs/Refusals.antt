@@ -1,11 +1,11 @@
 -- Which postings to the electric book are refused, with which number (01, Refusals in order of checking), and so what a posting gives.
-use mathlib.Core.Bool.{Bool, false, not}
+use mathlib.Core.Bool.{Bool, not, _&&_}
 use mathlib.Core.List.{List, [], _∷_, _++_}
 use Prim.Native.Nat.{ℕ}
 use lib.IntN.{pos, _+ℤ_}
 use Rattle.ints.specs.Machine.{eqZ}
 use Rattle.refusals.specs.Rows.{Row, row, refusalBy, byTable}
-use Rattle.postings.specs.Kinds.{Kind, cost, sales, bill, settle, monthEnd, adjust, reconcile, unknown, kindOf, unknownKind, strayNumber, outOfRange}
+use Rattle.postings.specs.Kinds.{Kind, settle, isKind, kindOf, unknownKind, strayNumber, outOfRange}
 use Rattle.postings.specs.declared.Book.the-variants.{Electric}
 use Rattle.postings.specs.declared.Posting.{Posting}
 use Rattle.riders.specs.Months.{forbidden}
@@ -18,14 +18,7 @@ use Rattle.electric_rules.specs.Next.{nextOf, answerOf}
 
 -- 10: settle with Ss + Sp = 0
 unfoldable pub nothingSold : Kind → ElectricBook → Bool
-nothingSold cost b = false
-nothingSold sales b = false
-nothingSold bill b = false
-nothingSold settle b = eqZ (b .period .sales .secondary .0 +ℤ b .period .sales .primary .0) (pos 0)
-nothingSold monthEnd b = false
-nothingSold adjust b = false
-nothingSold reconcile b = false
-nothingSold unknown b = false
+nothingSold kind b = isKind settle kind && eqZ (b .period .sales .secondary .0 +ℤ b .period .sales .primary .0) (pos 0)
 
 -- the rows that look at the book and the posting; 9 and 11 are the steam book's
 abbrev pub rowsBefore : ElectricBook → Posting → List Row

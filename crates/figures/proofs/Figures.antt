@@ -17,8 +17,13 @@ use Rattle.electric_rules.specs.Levels.{owedBy, settledLevel, interestOn}
 use Rattle.electric_rules.specs.Next.{settlePosted, nextAt, filedAnswer, answerAt}
 use Rattle.electric_rules.specs.Limits.{kwhInLimits, remainderInLimits, levelInLimits, periodInLimits, datesInLimits, inLimits}
 use Rattle.electric_rules.specs.Refusals.{nothingSold, postOf}
+use Rattle.steam_rules.specs.Calendar as steamCalendar
+use Rattle.steam_rules.specs.Settlement as steamSettlement
+use Rattle.steam_rules.specs.Limits as steamLimits
+use Rattle.steam_rules.specs.Next as steamNext
+use Rattle.steam_rules.specs.Refusals as steamRefusals
 use Rattle.figures.specs.Figures.{FiguresHold}
 
 pub figures-hold : FiguresHold
-unfolding round nearestOf roundedOf tieOf centsText textOf signOf decimal widthOf widthIn digits inRange weightOf refusalBy byTable centsInLimits pointsInLimits kindOf unknownKind fieldsOf standsBeyond strayNumber outOfRange settles ratesOf varianceOf shareableOf shareOf remainderAfter weightBy secondaryShare primaryShare owedBy factorFor settledLevel interestOn settlePosted nextAt filedAnswer answerAt kwhInLimits remainderInLimits runInLimits levelInLimits periodInLimits datesInLimits inLimits monthInLimits forbidden nothingSold postOf
+unfolding round nearestOf roundedOf tieOf centsText textOf signOf decimal widthOf widthIn digits inRange weightOf refusalBy byTable centsInLimits pointsInLimits kindOf unknownKind fieldsOf standsBeyond strayNumber outOfRange settles ratesOf varianceOf shareableOf shareOf remainderAfter weightBy secondaryShare primaryShare owedBy factorFor settledLevel interestOn settlePosted nextAt filedAnswer answerAt kwhInLimits remainderInLimits runInLimits levelInLimits periodInLimits datesInLimits inLimits monthInLimits forbidden nothingSold postOf steamCalendar.settles steamSettlement.varianceOf steamSettlement.shareableOf steamSettlement.shareOf steamSettlement.offByFive steamSettlement.determinantsOf steamSettlement.shifted steamSettlement.remainderAfter steamLimits.mmbtuInLimits steamLimits.remainderInLimits steamLimits.periodInLimits steamLimits.quartersInLimits steamLimits.factorsInLimits steamLimits.duesInLimits steamLimits.reconciliationInLimits steamLimits.runsInLimits steamLimits.inLimits steamNext.filedFactor steamNext.settlePosted steamNext.adjustPosted steamNext.nextAt steamNext.answerAt steamRefusals.stillRuns steamRefusals.nothingSold steamRefusals.tooSmall steamRefusals.postOf
 figures-hold = refl

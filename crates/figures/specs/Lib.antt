@@ -2,5 +2,6 @@
 pub mod Figure
 pub mod Rounding
 pub mod Electric
+pub mod Steam
 pub mod Text
 pub mod Figures

@@ -124,3 +124,12 @@ by-table P rows asked refused h accepts refuses = go (eqb (refusalBy rows) 0) re
     go : (t : Bool) → eqb (refusalBy rows) 0 ≡ t → P (cond t asked (refused (refusalBy rows)))
     go true e = accepts (none-holds rows h (eqb-true (refusalBy rows) 0 e))
     go false e = refuses (refusalBy rows)
+
+-- ---- a table of one row
+
+module _ {A : Type 0} (n : ℕ) (asked : A) (refused : ℕ → A) {condition : Bool} where
+  pub row-passed : condition ≡ false → byTable (row n condition ∷ []) asked refused ≡ asked
+  row-passed e = gives-asked (row n condition ∷ []) asked refused (accepted (row n condition ∷ []) (e, tt))
+
+  pub row-holds : 0 < n → condition ≡ true → byTable (row n condition ∷ []) asked refused ≡ refused n
+  row-holds h e = gives-refusal (row n condition ∷ []) asked refused n h (at-row n [] e)

@@ -5,6 +5,9 @@ pub mod Calendar
 pub mod Settlement
 pub mod Next
 pub mod Limits
+pub mod Fours
+pub mod Ranges
+pub mod Sizes
 pub mod Opening
 pub mod Refusals
 pub mod Tally

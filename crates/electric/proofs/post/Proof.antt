@@ -1,9 +1,10 @@
 -- `electric::post` gives what a posting gives: a row before the next book refuses, or the limits of the next book decide. Assumes nothing.
-use mathlib.Core.Path.{_≡_, sym, _∙_}
-use borrow.Author.Tests.{not-true, not-false}
+use mathlib.Core.Path.{_≡_, sym, ap, _∙_}
+use mathlib.Core.Bool.{not}
+use native.Mathlib.Omega.{arith}
 use borrow.Author.Needs.{needs}
+use Rattle.refusals.specs.Laws.{row-passed, row-holds}
 use Rattle.electric_rules.specs.Refusals.{postOf}
-use Rattle.electric.proofs.LastRow.{in-limits-stored, out-of-limits-12}
 use Rattle.electric.proofs.Ready.{refused-is, known, book-ready, posting-ready, stored-is}
 use Rattle.electric.proofs.post.Statement.{statement}
 use Rattle.electric.specs.Stored.{storedOr12}
@@ -36,10 +37,12 @@ refuse-requires-2 : tie.Need-refuse-requires-2
 refuse-requires-2 c κs = search needs
 
 returns-2 : tie.Need-returns-2
-returns-2 c = c .refuse2 .ensures ∙ sym (out-of-limits-12 (c .before .before .before .before .before .before .args .book) (c .before .before .before .effect .result) (sym (c .before .before .in-limits .ensures) ∙ not-true _ (c .before .if2 .taken))) ∙ given (c .before .before .before)
+unfolding storedOr12
+returns-2 c = c .refuse2 .ensures ∙ sym (row-holds 12 _ _ (omega arith) (ap not (sym (c .before .before .in-limits .ensures)) ∙ c .before .if2 .taken)) ∙ given (c .before .before .before)
 
 returns-3 : tie.Need-returns-3
-returns-3 c = sym (in-limits-stored (c .before .before .before .before .before .args .book) (c .before .before .effect .result) (sym (c .before .in-limits .ensures) ∙ not-false _ (c .if2 .left))) ∙ given (c .before .before)
+unfolding storedOr12
+returns-3 c = sym (row-passed 12 _ _ (ap not (sym (c .before .in-limits .ensures)) ∙ c .if2 .left)) ∙ given (c .before .before)
 
 pub post-spec : {M : Type 1} → statement M
 post-spec =

@@ -8,19 +8,13 @@ use mir.Val.{SFits}
 use mir.Facts.{toZ-ofZ}
 use Rattle.ints.specs.Bound.{bounds, b-between, fits64}
 use Rattle.ints.specs.Machine.{eqZ, eqZ-bits, zero64}
-use Rattle.postings.specs.Kinds.{kindOf, by-kind}
+use Rattle.postings.specs.Kinds.{settle, kindOf, other-kind}
+use native.Mathlib.Omega.{arith}
 use Rattle.electric_rules.specs.Ranges.{book-within}
 use Rattle.electric_rules.specs.Refusals.{nothingSold}
 use Rattle.electric_rules.specs.declared.ElectricBook.{ElectricBook}
 use Rattle.electric_refusals.proofs.sold_nothing.Statement.{statement}
 use Rattle.electric_refusals.proofs.sold_nothing.Tie as tie
-
--- no other kind is asked for sales
-never-asked : (b : ElectricBook) (n : ℕ) → (n ≡ 4 → ⊥) → false ≡ nothingSold (kindOf n) b
-unfolding nothingSold
-never-asked b =
-    by-kind (λ n kind. (n ≡ 4 → ⊥) → false ≡ nothingSold kind b)
-    (λ t. refl) (λ t. refl) (λ t. refl) (λ t. absurd (t refl)) (λ t. refl) (λ t. refl) (λ t. refl) (λ n t. refl)
 
 add-result : tie.Need-add-result
 add-result c = let w = book-within _ (c .before .before .before .before .pre) in fits64 (search bounds depth 30) tt
@@ -36,7 +30,8 @@ returns c = let b = c .before .before .before .before .args .book in
     ∙ ap (λ (k : ℕ). nothingSold (kindOf k) b) (sym (c .before .before .if1 .taken))
 
 returns-2 : tie.Need-returns-2
-returns-2 c = never-asked (c .before .before .args .book) (c .before .before .args .posting .kind) (c .if1 .left)
+unfolding nothingSold
+returns-2 c = sym (simp (other-kind settle (omega arith) _ (c .if1 .left)))
 
 pub sold-nothing-spec : {M : Type 1} → statement M
 sold-nothing-spec = tie.close (tie.spec add-result returns returns-2)

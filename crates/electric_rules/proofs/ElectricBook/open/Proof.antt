@@ -6,7 +6,7 @@ use native.Mathlib.Omega.{arith}
 use borrow.Author.Tests.{lt-ltb, le-ltb}
 use borrow.Author.Needs.{needs}
 use Rattle.refusals.specs.Rows.{row}
-use Rattle.refusals.specs.Laws.{at-row, accepted, gives-refusal, gives-asked}
+use Rattle.refusals.specs.Laws.{row-passed, row-holds}
 use Rattle.postings.specs.declared.Answer.the-variants.{Done}
 use Rattle.electric_rules.proofs.ElectricBook.open.Statement.{statement}
 use Rattle.electric_rules.specs.Book.{posted, refused, openedOf}
@@ -19,7 +19,7 @@ returns : tie.Need-returns
 unfolding openedOf
 returns c =
     let h : 1 < c .before .before .args .division = omega (arith, c .before .if1 .taken) in
-    (λ i. refused (c .fresh .ensures i) 7) ∙ sym (gives-refusal (row 7 _ ∷ []) _ _ 7 (omega arith) (at-row 7 [] (lt-ltb _ _ h)))
+    (λ i. refused (c .fresh .ensures i) 7) ∙ sym (row-holds 7 _ _ (omega arith) (lt-ltb _ _ h))
 
 fresh-requires-2 : tie.Need-fresh-requires-2
 fresh-requires-2 c κs = search needs
@@ -28,7 +28,7 @@ returns-2 : tie.Need-returns-2
 unfolding openedOf
 returns-2 c =
     let h : c .before .before .args .division ≤ 1 = omega (arith, c .before .if1 .left) in
-    (λ i. posted Done (c .fresh2 .ensures i)) ∙ sym (gives-asked (row 7 _ ∷ []) _ _ (accepted (row 7 _ ∷ []) (le-ltb _ _ h, tt)))
+    (λ i. posted Done (c .fresh2 .ensures i)) ∙ sym (row-passed 7 _ _ (le-ltb _ _ h))
 
 pub open-spec : {M : Type 1} → statement M
 open-spec = tie.close (tie.spec fresh-requires returns fresh-requires-2 returns-2)

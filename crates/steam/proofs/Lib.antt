@@ -1,0 +1,1 @@
+-- Laws over plain values that the functions' proofs cite.

@@ -1,0 +1,26 @@
+-- `Mmbtu::in_limits` tests the limits of stored sales. Assumes nothing.
+use mathlib.Core.Path.{ap, _∙_}
+use lib.IntN.{pos}
+use mir.Syntax.{w64}
+use mir.Val.{SFits}
+use mir.Facts.{toZ-ofZ}
+use Rattle.ints.specs.Range.{inRange}
+use Rattle.steam_rules.specs.Limits.{mmbtuInLimits}
+use borrow.Author.Needs.{needs}
+use Rattle.steam_rules.proofs.Mmbtu.in_limits.Statement.{statement}
+use Rattle.steam_rules.proofs.Mmbtu.in_limits.Tie as tie
+use Rattle.steam_rules.proofs.Mmbtu.in_limits.Reads as reads
+use Rattle.steam_rules.proofs.Mmbtu.in_limits.Lts as lts
+use Rattle.ints.proofs.in_range.Reads as in-range-reads
+
+in-range-requires : tie.Need-in-range-requires
+in-range-requires c κs = search needs
+
+returns : tie.Need-returns
+unfolding mmbtuInLimits
+returns c = let s = c .before .before .args .self in
+    let f : SFits w64 (s .0) = search needs in
+    c .in-range .ensures ∙ ap (inRange (pos 0) (pos 100000000)) (toZ-ofZ f)
+
+pub in-limits-spec : {M : Type 1} → statement M
+in-limits-spec = tie.close (tie.spec in-range-requires returns)
