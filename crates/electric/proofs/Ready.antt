@@ -48,9 +48,6 @@ module _ (b : ElectricBook) (p : Posting) {n : ℕ} (e : n ≡ refusalBy (rowsBe
 -- ---- the effect of a kind, by the number that the code has matched
 
 module _ (p : Posting) {n : ℕ} (e : p .kind ≡ n) where
-  pub ranged-as : Ranged Electric (kindOf (p .kind)) p → Ranged Electric (kindOf n) p
-  ranged-as h = subst (λ (m : ℕ). Ranged Electric (kindOf m) p) e h
-
   pub stored-as-kind : (b : ElectricBook) (next : Posted) → StoredAs b next (effectAt (kindOf n) b p) → StoredAs b next (effectAt (kindOf (p .kind)) b p)
   stored-as-kind b next h = h ∙ ap (λ (m : ℕ). storedOr12 b (effectAt (kindOf m) b p)) (sym e)
 

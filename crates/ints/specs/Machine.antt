@@ -7,7 +7,7 @@ use native.Mathlib.Omega.{arith}
 use lib.Dec.{T, eqb, ltb, lit<}
 use lib.IntN.{ℤ, pos, negsuc, natAbs}
 use lib.Signed.{mag, nonNeg, yes-nonNeg, _≤ℤ_, _<ℤ_}
-use mir.Syntax.{Width, w64}
+use mir.Syntax.{Width, w32, w64}
 use mir.Val.{SFits, Fits, toZ, ofZ, bits, hbits}
 use mir.Facts.{toZ-ofZ, toZ-pos, toZ-neg, fits-natAbs}
 use borrow.Author.Tests.{eqb-true, eqb-false, eq-eqb}
@@ -79,6 +79,9 @@ eqZ-bits {w} {x} {y} f g = go (eqb (ofZ w x) (ofZ w y)) refl
 -- for `== 0`
 pub zero64 : SFits w64 (pos 0)
 zero64 = record { sfits = lit< tt }
+
+pub zero32 : SFits w32 (pos 0)
+zero32 = record { sfits = lit< tt }
 
 -- ---- a number that is not negative, cast to an unsigned type
 

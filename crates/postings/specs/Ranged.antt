@@ -1,8 +1,9 @@
 -- What a posting's numbers are where none is out of range: each is one that its field of the table may hold. Assumes nothing.
-use mathlib.Core.Path.{_≡_, refl}
+use mathlib.Core.Path.{_≡_, refl, subst}
 use mathlib.Core.Logic.{_⊎_, inl, inr}
 use mathlib.Core.Bool.{Bool, true, false, _||_}
 use mathlib.Core.List.{List, [], _∷_}
+use Prim.Native.Nat.{ℕ}
 use lib.IntN.{ℤ}
 use borrow.Author.Tests.{not-false}
 use Rattle.ints.specs.Flags.{both}
@@ -45,3 +46,7 @@ all-ranged (f ∷ fields) (z ∷ numbers) e =
 pub none-out-of-range : (book : Book) (p : Posting) → outOfRange book p ≡ false → Ranged book (kindOf (p .kind)) p
 unfolding outOfRange fieldsOf
 none-out-of-range book p e = all-ranged (orNone (tableOf book (kindOf (p .kind)))) (numbersOf p) (not-false _ e)
+
+-- by a number that the kind's is known to be
+pub ranged-as : (book : Book) (p : Posting) {n : ℕ} → p .kind ≡ n → Ranged book (kindOf (p .kind)) p → Ranged book (kindOf n) p
+ranged-as book p e h = subst (λ (m : ℕ). Ranged book (kindOf m) p) e h

@@ -19,7 +19,10 @@ pub mod limits;
 fn still_runs(book: SteamBook, posting: Posting) -> bool
     ensures { λ r. ⌜ r ≡ stillRuns (kindOf (posting .kind)) book ⌝ }
 {
-    (posting.kind == 7) & !(book.reconciliation.months == 0)
+    if posting.kind == 7 {
+        return !(book.reconciliation.months == 0);
+    }
+    false
 }
 
 // Refusal 10: a settlement of no sales, or over determinants below 1.

@@ -1,4 +1,5 @@
 -- The steam book (01, Steam book): amounts put together, and the fresh book.
+use mathlib.Core.Path.{_≡_}
 use mathlib.Core.Bool.{false}
 use mathlib.Core.List.{List, [], _∷_}
 use Prim.Native.Nat.{ℕ}
@@ -60,3 +61,10 @@ freshOf quarters =
       dues = four (cents (pos 0));
       reconciliation = noReconciliation;
     }
+
+-- sales are the same where their number is
+pub same-mmbtu : {a b : ℤ} → a ≡ b → mmbtu a ≡ mmbtu b
+same-mmbtu e = λ i. mmbtu (e i)
+
+pub same-remainder : {a b : ℤ} → a ≡ b → remainder a ≡ remainder b
+same-remainder e = λ i. remainder (e i)

@@ -7,6 +7,7 @@ pub mod Next
 pub mod Limits
 pub mod Fours
 pub mod Ranges
+pub mod Quarters
 pub mod Sizes
 pub mod Opening
 pub mod Refusals

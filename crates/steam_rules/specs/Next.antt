@@ -20,7 +20,7 @@ use Rattle.steam_rules.specs.declared.Mmbtu.{Mmbtu}
 use Rattle.steam_rules.specs.declared.Period.{Period}
 use Rattle.steam_rules.specs.declared.Reconciliation.{Reconciliation}
 use Rattle.steam_rules.specs.declared.SteamBook.{SteamBook}
-use Rattle.steam_rules.specs.Book.{mmbtu, periodOf, reconciliationOf, noReconciliation}
+use Rattle.steam_rules.specs.Book.{periodOf, reconciliationOf, noReconciliation}
 use Rattle.steam_rules.specs.Calendar.{entering}
 use Rattle.steam_rules.specs.Settlement.{shareOf, remainderAfter, shifted, determinantsOf}
 

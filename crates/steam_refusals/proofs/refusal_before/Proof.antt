@@ -1,89 +1,110 @@
+-- `refusal_before` is the number of the first row that holds, row by row: each test is its row's condition. Assumes nothing.
+use mathlib.Core.Path.{_≡_, sym, _∙_, ap}
+use mathlib.Core.Bool.{Bool, true, false}
+use borrow.Author.Tests.{not-false}
 use borrow.Author.Needs.{needs}
+use Rattle.refusals.specs.Rows.{refusalBy}
+use Rattle.postings.specs.Kinds.{kindOf, unknownKind, strayNumber, outOfRange}
+use Rattle.postings.specs.Ranged.{none-out-of-range}
+use Rattle.postings.specs.declared.Book.the-variants.{Steam}
+use Rattle.riders.specs.Months.{forbidden}
+use Rattle.steam_rules.specs.Calendar.{settles}
+use Rattle.steam_rules.specs.Limits.{inLimits}
+use Rattle.steam_rules.specs.Refusals.{stillRuns, nothingSold}
 use Rattle.steam_refusals.proofs.refusal_before.Statement.{statement}
 use Rattle.steam_refusals.proofs.refusal_before.Tie as tie
-use Rattle.steam_refusals.proofs.refusal_before.Reads as reads
-use Rattle.steam_refusals.proofs.refusal_before.Lts as lts
-use Rattle.postings.proofs.out_of_range.Reads as out-of-range-reads
-use Rattle.postings.proofs.stray_number.Reads as stray-number-reads
-use Rattle.postings.proofs.unknown_kind.Reads as unknown-kind-reads
-use Rattle.riders.proofs.months.is_forbidden.Reads as is-forbidden-reads
-use Rattle.steam_refusals.proofs.calendar.settles.Reads as settles-reads
-use Rattle.steam_refusals.proofs.limits.in_limits.Reads as in-limits-reads
-use Rattle.steam_refusals.proofs.sold_nothing.Reads as sold-nothing-reads
-use Rattle.steam_refusals.proofs.still_runs.Reads as still-runs-reads
-use Rattle.steam_refusals.proofs.too_small.Reads as too-small-reads
 
--- src/lib.rt:53:8
+-- the month's test is row 8's
+is-row-8 : (c : tie.After-is-forbidden) → let s = c .before .before .before .before .before .before .before .before .before .before .args in c .is-forbidden .result ≡ forbidden (kindOf (s .posting .kind)) (settles (s .book .month)) (s .book .settled)
+is-row-8 c =
+    let s = c .before .before .before .before .before .before .before .before .before .before .args in
+    c .is-forbidden .ensures ∙ ap (λ (t : Bool). forbidden (kindOf (s .posting .kind)) t (s .book .settled)) (c .before .settles .ensures)
+
+-- what each test has left, over the place in the code where it is known
+
+known : (c : tie.Else1) → unknownKind Steam (c .before .before .args .posting .kind) ≡ false
+known c = sym (c .before .unknown-kind .ensures) ∙ c .if1 .left
+
+plain : (c : tie.Else2) → strayNumber Steam (c .before .before .before .before .args .posting) ≡ false
+plain c = sym (c .before .stray-number .ensures) ∙ c .if2 .left
+
+limited : (c : tie.Else3) → inLimits (c .before .before .before .before .before .before .args .book) ≡ true
+limited c = sym (c .before .in-limits .ensures) ∙ not-false _ (c .if3 .left)
+
+ranged : (c : tie.Else4) → outOfRange Steam (c .before .before .before .before .before .before .before .before .args .posting) ≡ false
+ranged c = sym (c .before .out-of-range .ensures) ∙ c .if4 .left
+
+allowed : (c : tie.Else5) → let s = c .before .before .before .before .before .before .before .before .before .before .before .args in forbidden (kindOf (s .posting .kind)) (settles (s .book .month)) (s .book .settled) ≡ false
+allowed c = sym (is-row-8 (c .before)) ∙ c .if5 .left
+
+free : (c : tie.Else6) → let s = c .before .before .before .before .before .before .before .before .before .before .before .before .before .args in stillRuns (kindOf (s .posting .kind)) (s .book) ≡ false
+free c = sym (c .before .still-runs .ensures) ∙ c .if6 .left
+
+sold : (c : tie.Else7) → let s = c .before .before .before .before .before .before .before .before .before .before .before .before .before .before .before .args in nothingSold (kindOf (s .posting .kind)) (s .book) (s .posting) ≡ false
+sold c = sym (c .before .sold-nothing .ensures) ∙ c .if7 .left
+
 unknown-kind-requires : tie.Need-unknown-kind-requires
 unknown-kind-requires c κs = search needs
 
--- src/lib.rt:54:9
 returns : tie.Need-returns
-returns c = ?
+unfolding refusalBy
+returns c = sym (simp (← (c .before .unknown-kind .ensures), c .if1 .taken))
 
--- src/lib.rt:56:8
 stray-number-requires : tie.Need-stray-number-requires
 stray-number-requires c κs = search needs
 
--- src/lib.rt:57:9
 returns-2 : tie.Need-returns-2
-returns-2 c = ?
+unfolding refusalBy
+returns-2 c = sym (simp (known (c .before .before), ← (c .before .stray-number .ensures), c .if2 .taken))
 
--- src/lib.rt:59:9
 in-limits-requires : tie.Need-in-limits-requires
 in-limits-requires c κs = search needs
 
--- src/lib.rt:60:9
 returns-3 : tie.Need-returns-3
-returns-3 c = ?
+unfolding refusalBy
+returns-3 c = sym (simp (known (c .before .before .before .before), plain (c .before .before), ← (c .before .in-limits .ensures), c .if3 .taken))
 
--- src/lib.rt:62:8
 out-of-range-requires : tie.Need-out-of-range-requires
 out-of-range-requires c κs = search needs
 
--- src/lib.rt:63:9
 returns-4 : tie.Need-returns-4
-returns-4 c = ?
+unfolding refusalBy
+returns-4 c = sym (simp (known (c .before .before .before .before .before .before), plain (c .before .before .before .before), limited (c .before .before), ← (c .before .out-of-range .ensures), c .if4 .taken))
 
--- src/lib.rt:65:46
 settles-requires : tie.Need-settles-requires
 settles-requires c κs = search needs
 
--- src/lib.rt:65:8
 is-forbidden-requires : tie.Need-is-forbidden-requires
 is-forbidden-requires c κs = search needs
 
--- src/lib.rt:66:9
 returns-5 : tie.Need-returns-5
-returns-5 c = ?
+unfolding refusalBy
+returns-5 c = sym (simp (known (c .before .before .before .before .before .before .before .before .before), plain (c .before .before .before .before .before .before .before), limited (c .before .before .before .before .before), ranged (c .before .before .before), ← (is-row-8 (c .before)), c .if5 .taken))
 
--- src/lib.rt:68:8
 still-runs-requires : tie.Need-still-runs-requires
 still-runs-requires c κs = search needs
 
--- src/lib.rt:69:9
 returns-6 : tie.Need-returns-6
-returns-6 c = ?
+unfolding refusalBy
+returns-6 c = sym (simp (known (c .before .before .before .before .before .before .before .before .before .before .before), plain (c .before .before .before .before .before .before .before .before .before), limited (c .before .before .before .before .before .before .before), ranged (c .before .before .before .before .before), allowed (c .before .before), ← (c .before .still-runs .ensures), c .if6 .taken))
 
--- src/lib.rt:71:8
 sold-nothing-requires : tie.Need-sold-nothing-requires
-sold-nothing-requires c κs = ?
+sold-nothing-requires c κs = (limited (c .before .before .before .before .before .before .before), none-out-of-range Steam (c .before .before .before .before .before .before .before .before .before .before .before .before .before .args .posting) (ranged (c .before .before .before .before .before)))
 
--- src/lib.rt:72:9
 returns-7 : tie.Need-returns-7
-returns-7 c = ?
+unfolding refusalBy
+returns-7 c = sym (simp (known (c .before .before .before .before .before .before .before .before .before .before .before .before .before), plain (c .before .before .before .before .before .before .before .before .before .before .before), limited (c .before .before .before .before .before .before .before .before .before), ranged (c .before .before .before .before .before .before .before), allowed (c .before .before .before .before), free (c .before .before), ← (c .before .sold-nothing .ensures), c .if7 .taken))
 
--- src/lib.rt:74:8
 too-small-requires : tie.Need-too-small-requires
-too-small-requires c κs = ?
+too-small-requires c κs = none-out-of-range Steam (c .before .before .before .before .before .before .before .before .before .before .before .before .before .before .before .args .posting) (ranged (c .before .before .before .before .before .before .before))
 
--- src/lib.rt:75:9
 returns-8 : tie.Need-returns-8
-returns-8 c = ?
+unfolding refusalBy
+returns-8 c = sym (simp (known (c .before .before .before .before .before .before .before .before .before .before .before .before .before .before .before), plain (c .before .before .before .before .before .before .before .before .before .before .before .before .before), limited (c .before .before .before .before .before .before .before .before .before .before .before), ranged (c .before .before .before .before .before .before .before .before .before), allowed (c .before .before .before .before .before .before), free (c .before .before .before .before), sold (c .before .before), ← (c .before .too-small .ensures), c .if8 .taken))
 
--- src/lib.rt:50:1
 returns-9 : tie.Need-returns-9
-returns-9 c = ?
+unfolding refusalBy
+returns-9 c = sym (simp (known (c .before .before .before .before .before .before .before .before .before .before .before .before .before .before .before), plain (c .before .before .before .before .before .before .before .before .before .before .before .before .before), limited (c .before .before .before .before .before .before .before .before .before .before .before), ranged (c .before .before .before .before .before .before .before .before .before), allowed (c .before .before .before .before .before .before), free (c .before .before .before .before), sold (c .before .before), ← (c .before .too-small .ensures), c .if8 .left))
 
 pub refusal-before-spec : {M : Type 1} → statement M
 refusal-before-spec =

@@ -1,20 +1,45 @@
+-- `sold_nothing` is row 10 of the table: of a settlement the sales and the determinants are compared, of any other kind nothing. Assumes
+-- nothing.
+use mathlib.Core.Path.{_≡_, sym, ap, _∙_}
+use mathlib.Core.Bool.{_||_}
+use Prim.Native.Nat.{ℕ}
+use native.Mathlib.Omega.{arith}
+use lib.IntN.{pos}
+use lib.Signed.{ltZ}
+use mir.Syntax.{w64}
+use mir.Val.{SFits, toZ, ofZ}
+use mir.Facts.{toZ-ofZ}
+use Rattle.ints.specs.Bound.{b-between, fits64}
+use Rattle.ints.specs.Machine.{eqZ-bits, zero64}
+use Rattle.postings.specs.Kinds.{settle, kindOf, other-kind}
+use Rattle.postings.specs.Ranged.{ranged-as}
+use Rattle.postings.specs.declared.Book.the-variants.{Steam}
+use Rattle.steam_rules.specs.Settlement.{determinantsOf}
+use Rattle.steam_rules.specs.Quarters.{determinants-within}
+use Rattle.steam_rules.specs.Ranges.{book-within}
+use Rattle.steam_rules.specs.Refusals.{nothingSold}
 use Rattle.steam_refusals.proofs.sold_nothing.Statement.{statement}
 use Rattle.steam_refusals.proofs.sold_nothing.Tie as tie
-use Rattle.steam_refusals.proofs.sold_nothing.Reads as reads
-use Rattle.steam_refusals.proofs.sold_nothing.Lts as lts
-use Rattle.steam_refusals.proofs.determinants.determinants_of.Reads as determinants-of-reads
 
--- src/lib.rt:32:16
 determinants-of-requires : tie.Need-determinants-of-requires
-determinants-of-requires c κs = ?
+unfolding kindOf
+determinants-of-requires c κs = let s = c .before .before .before .before .args in
+    let w = c .before .before .before .before .pre in
+    (book-within (s .book) (w .0), ranged-as Steam (s .posting) (c .before .before .if1 .taken) (w .1))
 
--- src/lib.rt:31:9
 returns : tie.Need-returns
-returns c = ?
+unfolding nothingSold kindOf
+returns c = let b = c .before .before .before .before .before .before .before .args .book in
+    let p = c .before .before .before .before .before .before .before .args .posting in
+    let w = book-within b (c .before .before .before .before .before .before .before .pre .0) in
+    let f : SFits w64 (b .period .sales .0) = fits64 (b-between (w .period .sales)) tt in
+    let within = determinants-within (b .period) (b .quarters) (w .period) (w .quarters) (p .first) (ranged-as Steam p (c .before .before .before .before .before .if1 .taken) (c .before .before .before .before .before .before .before .pre .1) .0) in
+    let read : toZ w64 (ofZ w64 (c .before .before .determinants-of .result .0)) ≡ determinantsOf (b .period) (b .quarters) (p .first) = (λ i. toZ w64 (ofZ w64 (c .before .before .determinants-of .ensures i .0))) ∙ toZ-ofZ (fits64 (b-between within) tt) in
+    (λ i. eqZ-bits f zero64 i || ltZ (read i) (pos 1)) ∙ ap (λ (k : ℕ). nothingSold (kindOf k) b p) (sym (c .before .before .before .before .before .if1 .taken))
 
--- src/lib.rt:26:1
 returns-2 : tie.Need-returns-2
-returns-2 c = ?
+unfolding nothingSold
+returns-2 c = sym (simp (other-kind settle (omega arith) _ (c .if1 .left)))
 
 pub sold-nothing-spec : {M : Type 1} → statement M
 sold-nothing-spec = tie.close (tie.spec determinants-of-requires returns returns-2)

@@ -1,29 +1,59 @@
+-- `too_small` is row 11 of the table: of an adjustment ten times its size is compared, of any other kind nothing. Assumes nothing.
+use mathlib.Core.Path.{_≡_, sym, ap, _∙_, subst}
+use mathlib.Core.Bool.{not}
+use Prim.Native.Nat.{ℕ}
+use native.Mathlib.Omega.{arith}
+use lib.IntN.{ℤ, pos, natAbs, _*ℤ_}
+use lib.Signed.{ltZ}
+use mir.Syntax.{w64}
+use mir.Val.{SFits, toZ, ofZ}
+use mir.Facts.{toZ-ofZ, toZ-pos}
 use borrow.Author.Needs.{needs}
+use Rattle.ints.specs.Bound.{Bound, b-between, b-pos, b-mul, fits64}
+use Rattle.ints.specs.Machine.{size-read}
+use Rattle.postings.specs.Kinds.{adjust, kindOf, other-kind}
+use Rattle.postings.specs.Ranged.{ranged-as}
+use Rattle.postings.specs.declared.Book.the-variants.{Steam}
+use Rattle.steam_rules.specs.Refusals.{tooSmall}
 use Rattle.steam_refusals.proofs.too_small.Statement.{statement}
 use Rattle.steam_refusals.proofs.too_small.Tie as tie
-use Rattle.steam_refusals.proofs.too_small.Reads as reads
-use Rattle.steam_refusals.proofs.too_small.Lts as lts
-use Rattle.ints.proofs.size.Reads as size-reads
 
--- src/lib.rt:43:13
 size-requires : tie.Need-size-requires
 size-requires c κs = search needs
 
--- src/lib.rt:44:41
+sized : (c : tie.After-size) → c .size .result ≡ natAbs (c .before .before .before .before .args .posting .first)
+unfolding kindOf
+sized c =
+    let p = c .before .before .before .before .args .posting in
+    let w = ranged-as Steam p (c .before .before .if1 .taken) (c .before .before .before .before .pre) in
+    size-read (fits64 (b-between (w .0)) tt) (c .size .ensures)
+
+size-bound : (c : tie.After-size) → Bound (pos (c .size .result))
+unfolding kindOf
+size-bound c =
+    let p = c .before .before .before .before .args .posting in
+    let w = ranged-as Steam p (c .before .before .if1 .taken) (c .before .before .before .before .pre) in
+    record { size = 10000000000; bound = rw (sized c) (b-between (w .0) .bound) }
+
 cast-result : tie.Need-cast-result
-cast-result c = ?
+unfolding size-bound
+cast-result c = fits64 (size-bound c) tt
 
--- src/lib.rt:44:35
 mul-result : tie.Need-mul-result
-mul-result c = ?
+unfolding size-bound
+mul-result c = subst (λ (z : ℤ). SFits w64 (pos 10 *ℤ z)) (sym (toZ-pos w64 (fits64 (size-bound c) tt .sfits))) (fits64 (b-mul (b-pos 10) (size-bound c)) tt)
 
--- src/lib.rt:44:9
 returns : tie.Need-returns
-returns c = ?
+unfolding tooSmall kindOf size-bound
+returns c = let p = c .before .before .before .before .before .before .args .posting in
+    let w = ranged-as Steam p (c .before .before .before .before .if1 .taken) (c .before .before .before .before .before .before .pre) in
+    let g : SFits w64 (p .second) = fits64 (b-between (w .1 .0)) tt in
+    let tenfold : toZ w64 (ofZ w64 (pos 10 *ℤ toZ w64 (c .before .before .size .result))) ≡ pos 10 *ℤ pos (natAbs (p .first)) = toZ-ofZ (mul-result (c .before .before)) ∙ ap (λ (z : ℤ). pos 10 *ℤ z) (toZ-pos w64 (fits64 (size-bound (c .before .before)) tt .sfits) ∙ ap pos (sized (c .before .before))) in
+    (λ i. not (ltZ (toZ-ofZ g i) (tenfold i))) ∙ ap (λ (k : ℕ). tooSmall (kindOf k) p) (sym (c .before .before .before .before .if1 .taken))
 
--- src/lib.rt:38:1
 returns-2 : tie.Need-returns-2
-returns-2 c = ?
+unfolding tooSmall
+returns-2 c = sym (simp (other-kind adjust (omega arith) _ (c .if1 .left)))
 
 pub too-small-spec : {M : Type 1} → statement M
 too-small-spec = tie.close (tie.spec size-requires cast-result mul-result returns returns-2)

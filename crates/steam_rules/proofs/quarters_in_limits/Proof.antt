@@ -3,15 +3,12 @@ use mathlib.Core.Path.{_≡_, _∙_}
 use mathlib.Core.Bool.{_&&_}
 use lib.IntN.{pos}
 use lib.ListN.{length}
+use borrow.Author.Needs.{needs}
+use Rattle.steam_rules.proofs.quarters_in_limits.Statement.{statement}
 use Rattle.steam_rules.specs.Book.{mmbtu}
 use Rattle.steam_rules.specs.Limits.{mmbtuInLimits, quartersInLimits}
 use Rattle.steam_rules.specs.Fours.{tested-four}
-use borrow.Author.Needs.{needs}
-use Rattle.steam_rules.proofs.quarters_in_limits.Statement.{statement}
 use Rattle.steam_rules.proofs.quarters_in_limits.Tie as tie
-use Rattle.steam_rules.proofs.quarters_in_limits.Reads as reads
-use Rattle.steam_rules.proofs.quarters_in_limits.Lts as lts
-use Rattle.steam_rules.proofs.Mmbtu.in_limits.Reads as in-limits-reads
 
 array-copy-out-in-limits : tie.Need-array-copy-out-in-limits
 array-copy-out-in-limits c = search needs

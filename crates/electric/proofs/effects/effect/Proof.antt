@@ -1,7 +1,9 @@
 -- `effects::effect` is the effect of the posting's kind, each arm that of its own. Assumes nothing.
 use mathlib.Core.Path.{_≡_, ap}
 use Rattle.postings.specs.Kinds.{kindOf}
-use Rattle.electric.proofs.Ready.{ranged-as, stored-as-kind, is-adjustment}
+use Rattle.postings.specs.Ranged.{ranged-as}
+use Rattle.postings.specs.declared.Book.the-variants.{Electric}
+use Rattle.electric.proofs.Ready.{stored-as-kind, is-adjustment}
 use Rattle.electric.proofs.effects.effect.Statement.{statement}
 use Rattle.electric.specs.Stored.{storedOr12}
 use Rattle.electric.proofs.effects.effect.Tie as tie
@@ -11,27 +13,27 @@ six c = let r = c .match .rest in is-adjustment _ (c .before .pre .2) (r .0 .0 .
 
 post-cost-requires : tie.Need-post-cost-requires
 unfolding kindOf
-post-cost-requires c κs = (c .before .pre .0, ranged-as (c .before .args .posting) (c .match .keys1) (c .before .pre .1))
+post-cost-requires c κs = (c .before .pre .0, ranged-as Electric (c .before .args .posting) (c .match .keys1) (c .before .pre .1))
 
 post-sales-requires : tie.Need-post-sales-requires
 unfolding kindOf
-post-sales-requires c κs = (c .before .pre .0, ranged-as (c .before .args .posting) (c .match .keys2) (c .before .pre .1))
+post-sales-requires c κs = (c .before .pre .0, ranged-as Electric (c .before .args .posting) (c .match .keys2) (c .before .pre .1))
 
 post-bill-requires : tie.Need-post-bill-requires
 unfolding kindOf
-post-bill-requires c κs = (c .before .pre .0, ranged-as (c .before .args .posting) (c .match .keys3) (c .before .pre .1))
+post-bill-requires c κs = (c .before .pre .0, ranged-as Electric (c .before .args .posting) (c .match .keys3) (c .before .pre .1))
 
 post-settlement-requires : tie.Need-post-settlement-requires
 unfolding kindOf
-post-settlement-requires c κs = (c .before .pre .0, ranged-as (c .before .args .posting) (c .match .keys4) (c .before .pre .1))
+post-settlement-requires c κs = (c .before .pre .0, ranged-as Electric (c .before .args .posting) (c .match .keys4) (c .before .pre .1))
 
 post-month-end-requires : tie.Need-post-month-end-requires
 unfolding kindOf
-post-month-end-requires c κs = (c .before .pre .0, ranged-as (c .before .args .posting) (c .match .keys5) (c .before .pre .1))
+post-month-end-requires c κs = (c .before .pre .0, ranged-as Electric (c .before .args .posting) (c .match .keys5) (c .before .pre .1))
 
 post-adjustment-requires : tie.Need-post-adjustment-requires
 unfolding kindOf
-post-adjustment-requires c κs = (c .before .pre .0, ranged-as (c .before .args .posting) (six c) (c .before .pre .1))
+post-adjustment-requires c κs = (c .before .pre .0, ranged-as Electric (c .before .args .posting) (six c) (c .before .pre .1))
 
 returns : tie.Need-returns
 unfolding kindOf

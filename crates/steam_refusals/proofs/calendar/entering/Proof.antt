@@ -1,27 +1,29 @@
+-- `calendar::entering` gives the run that the rules enter: its tests are theirs, in their order. Assumes nothing.
+use mathlib.Core.Path.{sym}
+use borrow.Author.Tests.{ne-eqb}
+use Rattle.steam_rules.specs.Calendar.{entering}
 use Rattle.steam_refusals.proofs.calendar.entering.Statement.{statement}
 use Rattle.steam_refusals.proofs.calendar.entering.Tie as tie
-use Rattle.steam_refusals.proofs.calendar.entering.Reads as reads
-use Rattle.steam_refusals.proofs.calendar.entering.Lts as lts
 
--- src/calendar.rt:17:9
 returns : tie.Need-returns
-returns c = ?
+unfolding entering
+returns c = sym (simp (c .if1 .taken))
 
--- src/calendar.rt:20:9
 returns-2 : tie.Need-returns-2
-returns-2 c = ?
+unfolding entering
+returns-2 c = sym (simp (ne-eqb _ _ (c .before .if1 .left), c .if2 .taken))
 
--- src/calendar.rt:23:9
 returns-3 : tie.Need-returns-3
-returns-3 c = ?
+unfolding entering
+returns-3 c = sym (simp (ne-eqb _ _ (c .before .before .if1 .left), ne-eqb _ _ (c .before .if2 .left), c .if3 .taken))
 
--- src/calendar.rt:26:9
 returns-4 : tie.Need-returns-4
-returns-4 c = ?
+unfolding entering
+returns-4 c = sym (simp (ne-eqb _ _ (c .before .before .before .if1 .left), ne-eqb _ _ (c .before .before .if2 .left), ne-eqb _ _ (c .before .if3 .left), c .if4 .taken))
 
--- src/calendar.rt:13:1
 returns-5 : tie.Need-returns-5
-returns-5 c = ?
+unfolding entering
+returns-5 c = sym (simp (ne-eqb _ _ (c .before .before .before .if1 .left), ne-eqb _ _ (c .before .before .if2 .left), ne-eqb _ _ (c .before .if3 .left), ne-eqb _ _ (c .if4 .left)))
 
 pub entering-spec : {M : Type 1} → statement M
 entering-spec = tie.close (tie.spec returns returns-2 returns-3 returns-4 returns-5)

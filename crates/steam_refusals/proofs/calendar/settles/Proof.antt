@@ -1,11 +1,12 @@
+-- `calendar::settles` is the test of the rules. Assumes nothing.
+use mathlib.Core.Path.{refl}
+use Rattle.steam_rules.specs.Calendar.{settles}
 use Rattle.steam_refusals.proofs.calendar.settles.Statement.{statement}
 use Rattle.steam_refusals.proofs.calendar.settles.Tie as tie
-use Rattle.steam_refusals.proofs.calendar.settles.Reads as reads
-use Rattle.steam_refusals.proofs.calendar.settles.Lts as lts
 
--- src/calendar.rt:6:1
 returns : tie.Need-returns
-returns c = ?
+unfolding settles
+returns c = refl
 
 pub settles-spec : {M : Type 1} → statement M
 settles-spec = tie.close (tie.spec returns)

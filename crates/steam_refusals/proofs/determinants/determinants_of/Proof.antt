@@ -1,34 +1,56 @@
+-- `determinants::determinants_of` is the rules': the adjustment is added where the test of the oldest quarter has it so. Assumes nothing.
+use mathlib.Core.Path.{_≡_, sym, _∙_}
+use mathlib.Core.Bool.{cond}
+use native.Mathlib.Omega.{arith}
+use lib.IntN.{pos, _+ℤ_}
+use mir.Syntax.{w64}
+use mir.Val.{toZ, ofZ}
 use borrow.Author.Needs.{needs}
+use Rattle.ints.specs.Bound.{bounds, fits64}
+use Rattle.ints.specs.Exact.{exacts, exact}
+use Rattle.ints.specs.Ring.{solve, _:+_, _:=_, #}
+use Rattle.ints.specs.Range.{Within, between-same}
+use Rattle.steam_rules.specs.Book.{mmbtu, same-mmbtu}
+use Rattle.steam_rules.specs.Settlement.{soldIn, threeNewest, determinantsOf}
+use Rattle.steam_rules.specs.Fours.{at}
+use Rattle.steam_rules.specs.Quarters.{year-within}
 use Rattle.steam_refusals.proofs.determinants.determinants_of.Statement.{statement}
 use Rattle.steam_refusals.proofs.determinants.determinants_of.Tie as tie
-use Rattle.steam_refusals.proofs.determinants.determinants_of.Reads as reads
-use Rattle.steam_refusals.proofs.determinants.determinants_of.Lts as lts
-use Rattle.steam_refusals.proofs.determinants.off_by_five.Reads as off-by-five-reads
-use Rattle.steam_refusals.proofs.determinants.year_of.Reads as year-of-reads
 
--- src/determinants.rt:41:9
 year-of-requires : tie.Need-year-of-requires
 year-of-requires c κs = search needs
 
--- src/determinants.rt:42:39
 array-copy-out-off-by-five : tie.Need-array-copy-out-off-by-five
 array-copy-out-off-by-five c = search needs
 
--- src/determinants.rt:42:8
 off-by-five-requires : tie.Need-off-by-five-requires
-off-by-five-requires c κs = ?
+off-by-five-requires c κs = let w = c .before .before .before .pre .0 in (w .period .sales, at (mmbtu (pos 0)) (w .quarters) 0 (omega arith))
 
--- src/determinants.rt:43:22
 add-t10 : tie.Need-add-t10
-add-t10 c = ?
+add-t10 c = let s = c .before .before .before .before .before .before .before .before .before .args in
+    let w = c .before .before .before .before .before .before .before .before .before .pre in
+    let year : Within 400000000 (c .before .before .before .before .before .before .before .year-of .result .0) = between-same (λ i. c .before .before .before .before .before .before .before .year-of .ensures i .0) (year-within (s .book .period) (s .book .quarters) (w .0 .period) (w .0 .quarters)) in
+    let b = w .1 .0 in
+    fits64 (search (bounds, year, b) depth 30) tt
 
--- src/determinants.rt:43:9
 returns : tie.Need-returns
-returns c = ?
+unfolding determinantsOf
+returns c = let s = c .before .before .before .before .before .before .before .before .before .args in
+    let w = c .before .before .before .before .before .before .before .before .before .pre in
+    let year : Within 400000000 (c .before .before .before .before .before .before .before .year-of .result .0) = between-same (λ i. c .before .before .before .before .before .before .before .year-of .ensures i .0) (year-within (s .book .period) (s .book .quarters) (w .0 .period) (w .0 .quarters)) in
+    let b = w .1 .0 in
+    let e : toZ w64 (ofZ w64 (toZ w64 (ofZ w64 (c .before .before .before .before .before .before .before .year-of .result .0)) +ℤ toZ w64 (ofZ w64 (s .posting .first)))) ≡ c .before .before .before .before .before .before .before .year-of .result .0 +ℤ s .posting .first = exact (search (exacts, year, b) depth 30) tt in
+    let off = sym (c .before .before .before .before .before .off-by-five .ensures) ∙ c .before .before .before .before .if1 .taken in
+    same-mmbtu (e ∙ (λ i. c .before .before .before .before .before .before .before .year-of .ensures i .0 +ℤ cond (sym off i) (s .posting .first) (pos 0)))
 
--- src/determinants.rt:36:1
 returns-2 : tie.Need-returns-2
-returns-2 c = ?
+unfolding determinantsOf
+returns-2 c = let s = c .before .before .before .before .before .args in
+    let off = sym (c .before .off-by-five .ensures) ∙ c .if1 .left in
+    c .before .before .before .year-of .ensures
+    ∙ same-mmbtu
+    (solve 1 (λ x. x := x :+ # 0) tt (s .book .period .sales .0 +ℤ soldIn (threeNewest (s .book .quarters)))
+    ∙ (λ i. s .book .period .sales .0 +ℤ soldIn (threeNewest (s .book .quarters)) +ℤ cond (sym off i) (s .posting .first) (pos 0)))
 
 pub determinants-of-spec : {M : Type 1} → statement M
 determinants-of-spec =

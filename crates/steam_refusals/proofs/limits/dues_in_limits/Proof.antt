@@ -1,45 +1,45 @@
+-- `limits::dues_in_limits` tests the limits of each of the four dues. Assumes nothing.
+use mathlib.Core.Path.{_≡_, _∙_}
+use mathlib.Core.Bool.{_&&_}
+use lib.IntN.{pos}
+use lib.ListN.{length}
 use borrow.Author.Needs.{needs}
+use Rattle.amounts.specs.Amounts.{cents, centsInLimits}
+use Rattle.steam_rules.specs.Limits.{duesInLimits}
+use Rattle.steam_rules.specs.Fours.{tested-four}
 use Rattle.steam_refusals.proofs.limits.dues_in_limits.Statement.{statement}
 use Rattle.steam_refusals.proofs.limits.dues_in_limits.Tie as tie
-use Rattle.steam_refusals.proofs.limits.dues_in_limits.Reads as reads
-use Rattle.steam_refusals.proofs.limits.dues_in_limits.Lts as lts
-use Rattle.amounts.proofs.Cents.in_limits.Reads as in-limits-reads
 
--- src/limits.rt:38:5
 array-copy-out-in-limits : tie.Need-array-copy-out-in-limits
 array-copy-out-in-limits c = search needs
 
--- src/limits.rt:38:5
 in-limits-requires : tie.Need-in-limits-requires
 in-limits-requires c κs = search needs
 
--- src/limits.rt:38:28
 array-copy-out-in-limits-2 : tie.Need-array-copy-out-in-limits-2
 array-copy-out-in-limits-2 c = search needs
 
--- src/limits.rt:38:28
 in-limits-requires-2 : tie.Need-in-limits-requires-2
 in-limits-requires-2 c κs = search needs
 
--- src/limits.rt:38:51
 array-copy-out-in-limits-3 : tie.Need-array-copy-out-in-limits-3
 array-copy-out-in-limits-3 c = search needs
 
--- src/limits.rt:38:51
 in-limits-requires-3 : tie.Need-in-limits-requires-3
 in-limits-requires-3 c κs = search needs
 
--- src/limits.rt:38:73
 array-copy-out-in-limits-4 : tie.Need-array-copy-out-in-limits-4
 array-copy-out-in-limits-4 c = search needs
 
--- src/limits.rt:38:73
 in-limits-requires-4 : tie.Need-in-limits-requires-4
 in-limits-requires-4 c κs = search needs
 
--- src/limits.rt:35:1
 returns : tie.Need-returns
-returns c = ?
+unfolding duesInLimits
+returns c = let x = c .before .before .before .before .before .before .before .before .args .t1 in
+    let l : length x ≡ 4 = search needs in
+    (λ i. c .before .before .before .before .before .before .in-limits .ensures i && (c .before .before .before .before .in-limits2 .ensures i && (c .before .before .in-limits3 .ensures i && c .in-limits4 .ensures i)))
+    ∙ tested-four centsInLimits (cents (pos 0)) x l
 
 pub dues-in-limits-spec : {M : Type 1} → statement M
 dues-in-limits-spec =

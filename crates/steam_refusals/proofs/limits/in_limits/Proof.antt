@@ -1,42 +1,37 @@
+-- `limits::in_limits` tests the limits of the book: of its month, its amounts and its runs. Assumes nothing.
+use mathlib.Core.Path.{ap, _∙_}
+use mathlib.Core.Bool.{Bool, _&&_}
 use borrow.Author.Needs.{needs}
+use Rattle.riders.specs.Months.{monthInLimits}
+use Rattle.steam_rules.specs.Limits.{inLimits}
 use Rattle.steam_refusals.proofs.limits.in_limits.Statement.{statement}
 use Rattle.steam_refusals.proofs.limits.in_limits.Tie as tie
-use Rattle.steam_refusals.proofs.limits.in_limits.Reads as reads
-use Rattle.steam_refusals.proofs.limits.in_limits.Lts as lts
-use Rattle.amounts.proofs.Cents.in_limits.Reads as Cents-in-limits-reads
-use Rattle.riders.proofs.months.in_limits.Reads as months-in-limits-reads
-use Rattle.steam_refusals.proofs.calendar.settles.Reads as settles-reads
-use Rattle.steam_refusals.proofs.limits.period_in_limits.Reads as period-in-limits-reads
-use Rattle.steam_refusals.proofs.limits.runs_in_limits.Reads as runs-in-limits-reads
-use Rattle.steam_rules.proofs.quarters_in_limits.Reads as quarters-in-limits-reads
 
--- src/limits.rt:69:9
 settles-requires : tie.Need-settles-requires
 settles-requires c κs = search needs
 
--- src/limits.rt:67:5
 in-limits-requires : tie.Need-in-limits-requires
 in-limits-requires c κs = search needs
 
--- src/limits.rt:71:10
 period-in-limits-requires : tie.Need-period-in-limits-requires
 period-in-limits-requires c κs = search needs
 
--- src/limits.rt:72:12
 quarters-in-limits-requires : tie.Need-quarters-in-limits-requires
 quarters-in-limits-requires c κs = search needs
 
--- src/limits.rt:73:16
 in-limits-requires-2 : tie.Need-in-limits-requires-2
 in-limits-requires-2 c κs = search needs
 
--- src/limits.rt:73:43
 runs-in-limits-requires : tie.Need-runs-in-limits-requires
 runs-in-limits-requires c κs = search needs
 
--- src/limits.rt:63:1
 returns : tie.Need-returns
-returns c = ?
+unfolding inLimits
+returns c = let b = c .before .before .before .before .before .before .before .args .book in
+    let month = c .before .before .before .before .in-limits .ensures ∙ ap (λ (t : Bool). monthInLimits (b .month) t (b .settled)) (c .before .before .before .before .before .settles .ensures) in
+    λ i.
+    month i && (c .before .before .before .period-in-limits .ensures i && (c .before .before .quarters-in-limits .ensures i
+    && (c .before .in-limits2 .ensures i && c .runs-in-limits .ensures i)))
 
 pub in-limits-spec : {M : Type 1} → statement M
 in-limits-spec =

@@ -4,14 +4,11 @@ use lib.IntN.{pos}
 use mir.Syntax.{w64}
 use mir.Val.{SFits}
 use mir.Facts.{toZ-ofZ}
-use Rattle.ints.specs.Range.{inRange}
-use Rattle.steam_rules.specs.Limits.{mmbtuInLimits}
 use borrow.Author.Needs.{needs}
+use Rattle.ints.specs.Range.{inRange}
 use Rattle.steam_rules.proofs.Mmbtu.in_limits.Statement.{statement}
+use Rattle.steam_rules.specs.Limits.{mmbtuInLimits}
 use Rattle.steam_rules.proofs.Mmbtu.in_limits.Tie as tie
-use Rattle.steam_rules.proofs.Mmbtu.in_limits.Reads as reads
-use Rattle.steam_rules.proofs.Mmbtu.in_limits.Lts as lts
-use Rattle.ints.proofs.in_range.Reads as in-range-reads
 
 in-range-requires : tie.Need-in-range-requires
 in-range-requires c κs = search needs

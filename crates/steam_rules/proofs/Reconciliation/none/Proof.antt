@@ -1,13 +1,10 @@
 -- `Reconciliation::none` is the reconciliation where none runs. Assumes nothing.
 use mathlib.Core.Path.{ap}
-use Rattle.riders.specs.declared.Run.{Run}
-use Rattle.steam_rules.specs.Book.{reconciliationOf}
 use borrow.Author.Needs.{needs}
+use Rattle.riders.specs.declared.Run.{Run}
 use Rattle.steam_rules.proofs.Reconciliation.none.Statement.{statement}
+use Rattle.steam_rules.specs.Book.{reconciliationOf}
 use Rattle.steam_rules.proofs.Reconciliation.none.Tie as tie
-use Rattle.steam_rules.proofs.Reconciliation.none.Reads as reads
-use Rattle.steam_rules.proofs.Reconciliation.none.Lts as lts
-use Rattle.riders.proofs.Run.none.Reads as none-reads
 
 none-requires : tie.Need-none-requires
 none-requires c κs = search needs

@@ -1,14 +1,14 @@
 -- `SteamBook::fresh` is the fresh book, its parts by their own functions. Assumes nothing.
 use mathlib.Core.Bool.{false}
 use lib.IntN.{pos}
+use borrow.Author.Needs.{needs}
 use Rattle.amounts.specs.Amounts.{cents, points}
 use Rattle.riders.specs.declared.Run.{Run}
+use Rattle.steam_rules.proofs.SteamBook.fresh.Statement.{statement}
 use Rattle.steam_rules.specs.declared.Period.{Period}
 use Rattle.steam_rules.specs.declared.Reconciliation.{Reconciliation}
 use Rattle.steam_rules.specs.declared.SteamBook.{SteamBook}
 use Rattle.steam_rules.specs.Book.{four}
-use borrow.Author.Needs.{needs}
-use Rattle.steam_rules.proofs.SteamBook.fresh.Statement.{statement}
 use Rattle.steam_rules.proofs.SteamBook.fresh.Tie as tie
 
 none-requires : tie.Need-none-requires

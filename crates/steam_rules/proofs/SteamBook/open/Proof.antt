@@ -2,12 +2,12 @@
 use mathlib.Core.Path.{sym, ap, _∙_}
 use mathlib.Core.Bool.{not}
 use native.Mathlib.Omega.{arith}
+use borrow.Author.Needs.{needs}
 use Rattle.refusals.specs.Laws.{row-passed, row-holds}
 use Rattle.postings.specs.declared.Answer.the-variants.{Done}
+use Rattle.steam_rules.proofs.SteamBook.open.Statement.{statement}
 use Rattle.steam_rules.specs.Book.{posted, refused}
 use Rattle.steam_rules.specs.Opening.{openedOf}
-use borrow.Author.Needs.{needs}
-use Rattle.steam_rules.proofs.SteamBook.open.Statement.{statement}
 use Rattle.steam_rules.proofs.SteamBook.open.Tie as tie
 
 quarters-in-limits-requires : tie.Need-quarters-in-limits-requires

@@ -1,0 +1,47 @@
+-- The past quarters as an array of four: the three newest together, the shift, and how large the billing determinants can be. Assumes nothing.
+use mathlib.Core.Path.{_≡_, sym, ap, _∙_}
+use mathlib.Core.Bool.{Bool, true, false, cond}
+use mathlib.Core.List.{List, [], _∷_}
+use Prim.Native.Nat.{ℕ}
+use native.Mathlib.Omega.{arith}
+use lib.IntN.{ℤ, pos, negℤ, _+ℤ_}
+use lib.ListN.{length, getD}
+use Rattle.ints.specs.Ring.{solve, _:+_, _:=_, #}
+use Rattle.ints.specs.Range.{Between, Within, between-same}
+use Rattle.ints.specs.Bound.{b-between, b-pos, b-add, within-by}
+use Rattle.steam_rules.specs.declared.Mmbtu.{Mmbtu}
+use Rattle.steam_rules.specs.declared.Period.{Period}
+use Rattle.steam_rules.specs.Book.{mmbtu}
+use Rattle.steam_rules.specs.Settlement.{oldest, threeNewest, shifted, soldIn, offByFive, determinantsOf}
+use Rattle.steam_rules.specs.Fours.{Four, as-four, at}
+use Rattle.steam_rules.specs.Ranges.{MmbtuWithin, PeriodWithin}
+
+abbrev pub quarterAt : List Mmbtu → ℕ → Mmbtu
+quarterAt quarters i = getD quarters i (mmbtu (pos 0))
+
+module _ (quarters : List Mmbtu) (count : length quarters ≡ 4) where
+  pub sold-three : quarterAt quarters 1 .0 +ℤ (quarterAt quarters 2 .0 +ℤ quarterAt quarters 3 .0) ≡ soldIn (threeNewest quarters)
+  sold-three =
+      solve 3 (λ x y z. x :+ (y :+ z) := x :+ (y :+ (z :+ # 0))) tt (quarterAt quarters 1 .0) (quarterAt quarters 2 .0) (quarterAt quarters 3 .0)
+      ∙ ap (λ (qs : List Mmbtu). soldIn (threeNewest qs)) (sym (as-four (mmbtu (pos 0)) quarters count))
+
+  pub shifted-four : (newest : Mmbtu) → quarterAt quarters 1 ∷ quarterAt quarters 2 ∷ quarterAt quarters 3 ∷ newest ∷ [] ≡ shifted quarters newest
+  unfolding shifted
+  shifted-four newest = ap (λ (qs : List Mmbtu). shifted qs newest) (sym (as-four (mmbtu (pos 0)) quarters count))
+
+module _ (p : Period) (quarters : List Mmbtu) (ps : PeriodWithin p) (qs : Four MmbtuWithin quarters) where
+  -- the sales of a year
+  pub year-within : Within 400000000 (p .sales .0 +ℤ soldIn (threeNewest quarters))
+  year-within =
+      let a : Between (pos 0) (pos 100000000) (quarterAt quarters 1 .0) = at (mmbtu (pos 0)) qs 1 (omega arith) in
+      let b : Between (pos 0) (pos 100000000) (quarterAt quarters 2 .0) = at (mmbtu (pos 0)) qs 2 (omega arith) in
+      let c : Between (pos 0) (pos 100000000) (quarterAt quarters 3 .0) = at (mmbtu (pos 0)) qs 3 (omega arith) in
+      between-same (ap (λ (z : ℤ). p .sales .0 +ℤ z) (sym (sold-three quarters (qs .count)))) (within-by (b-add (b-between (ps .sales)) (b-add (b-between a) (b-add (b-between b) (b-between c)))) tt)
+
+  pub determinants-within : (b : ℤ) → Between (negℤ (pos 100000000)) (pos 100000000) b → Within 500000000 (determinantsOf p quarters b)
+  unfolding determinantsOf
+  determinants-within b h = go (offByFive (p .sales .0) (oldest quarters))
+    where
+      go : (t : Bool) → Within 500000000 (p .sales .0 +ℤ soldIn (threeNewest quarters) +ℤ cond t b (pos 0))
+      go true = within-by (b-add (b-between year-within) (b-between h)) tt
+      go false = within-by (b-add (b-between year-within) (b-pos 0)) tt
