@@ -9,7 +9,7 @@ use Rattle.amounts.specs.Amounts.{points, pointsInLimits}
 use Rattle.postings.specs.Kinds.{settle}
 use Rattle.postings.specs.declared.Posting.{Posting}
 use Rattle.postings.specs.declared.Answer.the-variants.{FiledLevels}
-use Rattle.riders.specs.Runs.{run, factorFor, runInLimits, narrowed, narrowed-in, narrowed-out}
+use Rattle.riders.specs.Runs.{narrowed-alike, run, factorFor, runInLimits, narrowed, narrowed-in, narrowed-out}
 use Rattle.electric_rules.specs.declared.Level.{Level}
 use Rattle.electric_rules.specs.declared.ElectricBook.{ElectricBook}
 use Rattle.electric_rules.specs.declared.Posted.{Posted}
@@ -66,13 +66,6 @@ module _ (b : ElectricBook) (p : Posting) where
 
   pub stored-as : StoredAs b (settledAt (narrowed quotientSecondary) (narrowed quotientPrimary)) (effectAt settle b p)
   unfolding nextAt answerAt settlePosted filedAnswer settledLevel
-  stored-as = go (pointsInLimits (points quotientSecondary)) refl (pointsInLimits (points quotientPrimary)) refl
-    where
-      go :
-          (s : Bool) → pointsInLimits (points quotientSecondary) ≡ s → (t : Bool) → pointsInLimits (points quotientPrimary) ≡ t →
-          storedOr12 b (settledAt (narrowed quotientSecondary) (narrowed quotientPrimary)) ≡ storedOr12 b (settledAt quotientSecondary quotientPrimary)
-      go true e true f = λ i. storedOr12 b (settledAt (narrowed-in quotientSecondary e i) (narrowed-in quotientPrimary f i))
-      go false e t f =
-          refused-12 _ (secondary-out _ (level-out _ (narrowed-out quotientSecondary e))) ∙ sym (refused-12 _ (secondary-out _ (level-out _ e)))
-      go true e false f =
-          refused-12 _ (primary-out _ (level-out _ (narrowed-out quotientPrimary f))) ∙ sym (refused-12 _ (primary-out _ (level-out _ f)))
+  stored-as =
+      narrowed-alike (λ f. storedOr12 b (settledAt f (narrowed quotientPrimary))) (refused b 12) (λ f e. refused-12 _ (secondary-out _ (level-out _ e))) quotientSecondary
+      ∙ narrowed-alike (λ f. storedOr12 b (settledAt quotientSecondary f)) (refused b 12) (λ f e. refused-12 _ (primary-out _ (level-out _ e))) quotientPrimary

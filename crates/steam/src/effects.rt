@@ -89,10 +89,11 @@ fn post_settlement(book: SteamBook, posting: Posting) -> Posted
     let determinants = steam_refusals::determinants::determinants_of(book, posting);
     let factor = crate::filing::factor_for(share, determinants);
     let filed = Run { factor, due: share };
+    let quarters = crate::settlement::shifted(past, book.period.sales);
     let mut next = book;
     next.settled = true;
     next.period = crate::settlement::period_after(book.period, shareable, share);
-    next.quarters = crate::settlement::shifted(past, book.period.sales);
+    next.quarters = quarters;
     next.pending = filed;
     Posted {
         answer: Answer::Filed(factor),

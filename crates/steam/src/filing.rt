@@ -9,7 +9,7 @@ ghost use Rattle.amounts.specs.Amounts.{points};
 ghost use Rattle.riders.specs.Runs.{factorFor, narrowed};
 
 pub(crate) fn factor_for(owed: Cents, sales: Mmbtu) -> Points
-    requires { ⌜ Within 1000000000000 (owed .0) ⌝ }
+    requires { ⌜ Within 1000000000000 (owed .0) × Within 1000000000 (sales .0) ⌝ }
     ensures { λ r. ⌜ r ≡ points (narrowed (factorFor (owed .0) (sales .0))) ⌝ }
 {
     let quotient = Quotient(rounding::round_div(100 * owed.0, sales.0));

@@ -1,21 +1,20 @@
+-- `bills::line_at` is the line at factors that stand together. Assumes nothing.
 use borrow.Author.Needs.{needs}
+use Rattle.ints.specs.Bound.{bounds, fits64}
+use Rattle.ints.specs.Exact.{exacts, e-eq, exact}
+use Rattle.rounding.specs.Laws.{rounds}
+use Rattle.amounts.specs.Amounts.{same-cents}
 use Rattle.steam.proofs.bills.line_at.Statement.{statement}
 use Rattle.steam.proofs.bills.line_at.Tie as tie
-use Rattle.steam.proofs.bills.line_at.Reads as reads
-use Rattle.steam.proofs.bills.line_at.Lts as lts
-use Rattle.rounding.proofs.round_div.Reads as round-div-reads
 
--- src/bills.rt:40:31
 mul-round-div : tie.Need-mul-round-div
-mul-round-div c = ?
+mul-round-div c = fits64 (search bounds depth 30) tt
 
--- src/bills.rt:40:11
 round-div-requires : tie.Need-round-div-requires
 round-div-requires c κs = search needs
 
--- src/bills.rt:36:1
 returns : tie.Need-returns
-returns c = ?
+returns c = same-cents (exact (search (exacts, rounds, e-eq) depth 30) tt)
 
 pub line-at-spec : {M : Type 1} → statement M
 line-at-spec = tie.close (tie.spec mul-round-div round-div-requires returns)

@@ -1,27 +1,24 @@
+-- `effects::post_bill` is the effect of a bill: its line is answered, and each run loses its part. Assumes nothing.
 use borrow.Author.Needs.{needs}
+use Rattle.postings.specs.declared.Answer.the-variants.{Line}
+use Rattle.steam_rules.specs.Book.{posted}
+use Rattle.steam_rules.specs.Next.{withDues, billLine, billPosted, nextAt, answerAt}
 use Rattle.steam.proofs.effects.post_bill.Statement.{statement}
 use Rattle.steam.proofs.effects.post_bill.Tie as tie
-use Rattle.steam.proofs.effects.post_bill.Reads as reads
-use Rattle.steam.proofs.effects.post_bill.Lts as lts
-use Rattle.steam.proofs.bills.dues_less.Reads as dues-less-reads
-use Rattle.steam.proofs.bills.lines_of.Reads as lines-of-reads
-use Rattle.steam.proofs.bills.reconciliation_less.Reads as reconciliation-less-reads
 
--- src/effects.rt:69:9
 lines-of-requires : tie.Need-lines-of-requires
 lines-of-requires c κs = search needs
 
--- src/effects.rt:70:9
 dues-less-requires : tie.Need-dues-less-requires
 dues-less-requires c κs = search needs
 
--- src/effects.rt:73:5
 reconciliation-less-requires : tie.Need-reconciliation-less-requires
 reconciliation-less-requires c κs = search needs
 
--- src/effects.rt:65:1
 returns : tie.Need-returns
-returns c = ?
+unfolding nextAt answerAt billPosted billLine
+returns c = let b = c .before .before .before .before .args .book in
+    λ i. posted (Line (c .before .before .before .lines-of .ensures i .all)) (withDues b (c .before .before .dues-less .ensures i) (c .before .reconciliation-less .ensures i))
 
 pub post-bill-spec : {M : Type 1} → statement M
 post-bill-spec =

@@ -1,17 +1,18 @@
+-- `effects::post_cost` is the effect of a cost posting: it is added to the quarter. Assumes nothing.
 use borrow.Author.Needs.{needs}
+use Rattle.postings.specs.declared.Answer.the-variants.{Done}
+use Rattle.steam_rules.specs.Book.{posted}
+use Rattle.steam_rules.specs.Next.{withPeriod, costPosted, nextAt, answerAt}
 use Rattle.steam.proofs.effects.post_cost.Statement.{statement}
 use Rattle.steam.proofs.effects.post_cost.Tie as tie
-use Rattle.steam.proofs.effects.post_cost.Reads as reads
-use Rattle.steam.proofs.effects.post_cost.Lts as lts
-use Rattle.steam.proofs.effects.cost_added.Reads as cost-added-reads
 
--- src/effects.rt:36:5
 cost-added-requires : tie.Need-cost-added-requires
 cost-added-requires c κs = search needs
 
--- src/effects.rt:31:1
 returns : tie.Need-returns
-returns c = ?
+unfolding nextAt answerAt costPosted
+returns c = let b = c .before .args .book in
+    λ i. posted Done (withPeriod b (c .cost-added .ensures i))
 
 pub post-cost-spec : {M : Type 1} → statement M
 post-cost-spec = tie.close (tie.spec cost-added-requires returns)

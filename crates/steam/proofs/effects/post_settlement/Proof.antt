@@ -1,4 +1,59 @@
+-- `effects::post_settlement` is stored or refused as the effect of a settlement: the share is pending with the factor over the determinants.
+-- Assumes nothing.
+use mathlib.Core.Path.{_∙_}
+use borrow.Author.Needs.{needs}
+use Rattle.ints.specs.Order.{signed}
+use Rattle.ints.specs.Range.{Within, between-same}
+use Rattle.amounts.specs.Amounts.{points}
+use Rattle.postings.specs.declared.Answer.the-variants.{Filed}
+use Rattle.riders.specs.Runs.{factorFor, narrowed}
+use Rattle.steam_rules.specs.Book.{posted}
+use Rattle.steam_rules.specs.Next.{settledWith, filedFactor}
+use Rattle.steam_rules.specs.Quarters.{determinants-within}
+use Rattle.steam_rules.specs.Sizes.{share-within}
+use Rattle.steam.proofs.Settling.{settled-alike}
 use Rattle.steam.proofs.effects.post_settlement.Statement.{statement}
+use Rattle.steam.specs.Stored.{storedOr12}
+use Rattle.steam.proofs.effects.post_settlement.Tie as tie
+
+shareable-of-requires : tie.Need-shareable-of-requires
+shareable-of-requires c κs = search needs
+
+share-of-requires : tie.Need-share-of-requires
+share-of-requires c κs = search needs
+
+determinants-of-requires : tie.Need-determinants-of-requires
+determinants-of-requires c κs = search needs
+
+factor-for-requires : tie.Need-factor-for-requires
+factor-for-requires c κs = let s = c .before .before .before .before .args in
+    let w = c .before .before .before .before .pre in
+    let determinants : Within 500000000 (c .determinants-of .result .0) = between-same (λ i. c .determinants-of .ensures i .0) (determinants-within (s .book .period) (s .book .quarters) (w .0 .period) (w .0 .quarters) (s .posting .first) (w .1 .0)) in
+    (between-same (λ i. c .before .share-of .ensures i .0) (share-within (s .book .period) (w .0 .period)), omega signed)
+
+shifted-requires : tie.Need-shifted-requires
+shifted-requires c κs = search needs
+
+period-after-requires : tie.Need-period-after-requires
+period-after-requires c κs = search needs
+
+returns : tie.Need-returns
+unfolding filedFactor
+returns c = let b = c .before .before .before .before .before .before .before .args .book in
+    let p = c .before .before .before .before .before .before .before .args .posting in
+    let share = c .before .before .before .before .share-of .ensures in
+    let factor = c .before .before .factor-for .ensures ∙ (λ i. points (narrowed (factorFor (share i .0) (c .before .before .before .determinants-of .ensures i .0)))) in
+    (λ i. storedOr12 b (posted (Filed (factor i)) (settledWith b (c .period-after .ensures i) (c .before .shifted .ensures i) (record { factor = factor i; due = share i }))))
+    ∙ settled-alike b p
 
 pub post-settlement-spec : {M : Type 1} → statement M
-post-settlement-spec 𝓤 H 𝓜 𝓖 𝓡 = ?
+post-settlement-spec =
+    tie.close
+    (tie.spec
+    shareable-of-requires
+    share-of-requires
+    determinants-of-requires
+    factor-for-requires
+    shifted-requires
+    period-after-requires
+    returns)

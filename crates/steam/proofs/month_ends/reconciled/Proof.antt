@@ -1,33 +1,32 @@
+-- `month_ends::reconciled` takes a month from the reconciliation as the rules do, by the months that are left. Assumes nothing.
 use borrow.Author.Needs.{needs}
+use Rattle.ints.specs.Bound.{bounds, fits64}
+use Rattle.ints.specs.Exact.{exacts, exact}
+use Rattle.steam.proofs.Parts.{none-runs, last-month, month-lost}
 use Rattle.steam.proofs.month_ends.reconciled.Statement.{statement}
 use Rattle.steam.proofs.month_ends.reconciled.Tie as tie
-use Rattle.steam.proofs.month_ends.reconciled.Reads as reads
-use Rattle.steam.proofs.month_ends.reconciled.Lts as lts
-use Rattle.steam_rules.proofs.Reconciliation.none.Reads as none-reads
 
--- src/month_ends.rt:42:9
 returns : tie.Need-returns
-returns c = ?
+returns c = none-runs (c .before .args .book) (c .if1 .taken)
 
--- src/month_ends.rt:46:29
 add-t7 : tie.Need-add-t7
-add-t7 c = ?
+add-t7 c = let k = c .before .before .before .before .pre .0 in
+    let d = c .before .before .before .before .pre .1 .due in
+    fits64 (search (bounds, k, d) depth 30) tt
 
--- src/month_ends.rt:48:9
 none-requires : tie.Need-none-requires
 none-requires c κs = search needs
 
--- src/month_ends.rt:49:9
 returns-2 : tie.Need-returns-2
-returns-2 c = ?
+returns-2 c = let k = c .before .before .before .before .before .pre .0 in
+    let d = c .before .before .before .before .before .pre .1 .due in
+    last-month (c .before .before .before .before .before .args .book) (c .before .before .before .if2 .taken) (exact (search (exacts, k, d) depth 30) tt) (c .none .ensures)
 
--- src/month_ends.rt:52:29
 sub-reconciliation : tie.Need-sub-reconciliation
 sub-reconciliation c = search needs
 
--- src/month_ends.rt:36:1
 returns-3 : tie.Need-returns-3
-returns-3 c = ?
+returns-3 c = month-lost (c .before .before .before .args .book) (c .before .before .if1 .left) (c .before .if2 .left)
 
 pub reconciled-spec : {M : Type 1} → statement M
 reconciled-spec =

@@ -1,17 +1,29 @@
+-- `settlement::share_of` rounds what is to be shared to the customers' share. Assumes nothing.
+use mathlib.Core.Path.{_≡_, _∙_}
+use lib.IntN.{pos}
+use mir.Syntax.{w64}
+use mir.Val.{toZ, ofZ}
 use borrow.Author.Needs.{needs}
+use Rattle.ints.specs.Exact.{exacts, e-eq, exact}
+use Rattle.ints.specs.Range.{Within, between-same}
+use Rattle.rounding.specs.Laws.{rounds}
+use Rattle.rounding.specs.Round.{round}
+use Rattle.amounts.specs.Amounts.{same-cents}
+use Rattle.steam_rules.specs.Settlement.{shareOf}
+use Rattle.steam_rules.specs.Sizes.{shareable-within}
 use Rattle.steam.proofs.settlement.share_of.Statement.{statement}
 use Rattle.steam.proofs.settlement.share_of.Tie as tie
-use Rattle.steam.proofs.settlement.share_of.Reads as reads
-use Rattle.steam.proofs.settlement.share_of.Lts as lts
-use Rattle.rounding.proofs.round_div.Reads as round-div-reads
 
--- src/settlement.rt:36:11
 round-div-requires : tie.Need-round-div-requires
 round-div-requires c κs = search needs
 
--- src/settlement.rt:32:1
 returns : tie.Need-returns
-returns c = ?
+unfolding shareOf
+returns c = let s = c .before .before .args in
+    let w = c .before .before .pre in
+    let shareable : Within 9000000000000000 (s .shareable .0) = between-same (λ i. w .1 i .0) (shareable-within (s .period) (w .0)) in
+    let e : toZ w64 (ofZ w64 (c .round-div .result)) ≡ round (s .shareable .0) (pos 10000) = exact (search (exacts, rounds, e-eq, shareable) depth 30) tt in
+    same-cents (e ∙ (λ i. round (w .1 i .0) (pos 10000)))
 
 pub share-of-spec : {M : Type 1} → statement M
 share-of-spec = tie.close (tie.spec round-div-requires returns)

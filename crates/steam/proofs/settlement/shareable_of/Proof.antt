@@ -1,31 +1,29 @@
+-- `settlement::shareable_of` is what the quarter is to share. Assumes nothing.
+use Rattle.ints.specs.Bound.{bounds, fits64}
+use Rattle.ints.specs.Exact.{exacts, exact}
+use Rattle.steam_rules.specs.Book.{same-remainder}
+use Rattle.steam_rules.specs.Settlement.{varianceOf, shareableOf}
 use Rattle.steam.proofs.settlement.shareable_of.Statement.{statement}
 use Rattle.steam.proofs.settlement.shareable_of.Tie as tie
-use Rattle.steam.proofs.settlement.shareable_of.Reads as reads
-use Rattle.steam.proofs.settlement.shareable_of.Lts as lts
 
--- src/settlement.rt:27:20
 mul-variance : tie.Need-mul-variance
-mul-variance c = ?
+mul-variance c = fits64 (search bounds depth 30) tt
 
--- src/settlement.rt:27:42
 mul-variance-2 : tie.Need-mul-variance-2
-mul-variance-2 c = ?
+mul-variance-2 c = fits64 (search bounds depth 30) tt
 
--- src/settlement.rt:27:20
 sub-variance : tie.Need-sub-variance
-sub-variance c = ?
+sub-variance c = fits64 (search bounds depth 30) tt
 
--- src/settlement.rt:28:15
 mul-t3 : tie.Need-mul-t3
-mul-t3 c = ?
+mul-t3 c = fits64 (search bounds depth 30) tt
 
--- src/settlement.rt:28:15
 add-t4 : tie.Need-add-t4
-add-t4 c = ?
+add-t4 c = fits64 (search bounds depth 30) tt
 
--- src/settlement.rt:23:1
 returns : tie.Need-returns
-returns c = ?
+unfolding shareableOf varianceOf
+returns c = same-remainder (exact (search exacts depth 30) tt)
 
 pub shareable-of-spec : {M : Type 1} → statement M
 shareable-of-spec =

@@ -1,24 +1,24 @@
+-- `settlement::shifted` lets the oldest quarter leave and the newest enter. Assumes nothing.
+use mathlib.Core.Path.{_≡_}
+use lib.ListN.{length}
 use borrow.Author.Needs.{needs}
+use Rattle.steam_rules.specs.Quarters.{shifted-four}
 use Rattle.steam.proofs.settlement.shifted.Statement.{statement}
 use Rattle.steam.proofs.settlement.shifted.Tie as tie
-use Rattle.steam.proofs.settlement.shifted.Reads as reads
-use Rattle.steam.proofs.settlement.shifted.Lts as lts
 
--- src/settlement.rt:55:6
 array-copy-out-t6 : tie.Need-array-copy-out-t6
 array-copy-out-t6 c = search needs
 
--- src/settlement.rt:55:19
 array-copy-out-t9 : tie.Need-array-copy-out-t9
 array-copy-out-t9 c = search needs
 
--- src/settlement.rt:55:32
 array-copy-out-t12 : tie.Need-array-copy-out-t12
 array-copy-out-t12 c = search needs
 
--- src/settlement.rt:52:1
 returns : tie.Need-returns
-returns c = ?
+returns c = let s = c .before .before .before .args in
+    let l : length (s .t1) ≡ 4 = search needs in
+    shifted-four (s .t1) l (s .newest)
 
 pub shifted-spec : {M : Type 1} → statement M
 shifted-spec = tie.close (tie.spec array-copy-out-t6 array-copy-out-t9 array-copy-out-t12 returns)

@@ -1,0 +1,58 @@
+-- `steam::post` gives what a posting gives: a row before the next book refuses, or the limits of the next book decide. Assumes nothing.
+use mathlib.Core.Path.{_≡_, sym, ap, _∙_}
+use mathlib.Core.Bool.{not}
+use native.Mathlib.Omega.{arith}
+use borrow.Author.Needs.{needs}
+use Rattle.refusals.specs.Laws.{row-passed, row-holds}
+use Rattle.steam_rules.specs.Refusals.{postOf}
+use Rattle.steam.proofs.Ready.{refused-is, known, book-ready, posting-ready, stored-is}
+use Rattle.steam.proofs.post.Statement.{statement}
+use Rattle.steam.specs.Stored.{storedOr12}
+use Rattle.steam.proofs.post.Tie as tie
+
+refusal-before-requires : tie.Need-refusal-before-requires
+refusal-before-requires c κs = search needs
+
+refuse-requires : tie.Need-refuse-requires
+refuse-requires c κs = search needs
+
+returns : tie.Need-returns
+returns c = c .refuse .ensures ∙ refused-is (c .before .before .before .args .book) (c .before .before .before .args .posting) (c .before .before .refusal-before .ensures) (c .before .if1 .taken)
+
+effect-requires : tie.Need-effect-requires
+effect-requires c κs = let b = c .before .before .args .book in
+    let p = c .before .before .args .posting in
+    let e = c .before .refusal-before .ensures in
+    (book-ready b p e (c .if1 .left), posting-ready b p e (c .if1 .left), known b p e (c .if1 .left))
+
+given : (c : tie.After-effect) → let s = c .before .before .before .args in storedOr12 (s .book) (c .effect .result) ≡ postOf (s .book) (s .posting)
+given c =
+    let s = c .before .before .before .args in
+    c .effect .ensures ∙ stored-is (s .book) (s .posting) (c .before .before .refusal-before .ensures) (c .before .if1 .left)
+
+in-limits-requires : tie.Need-in-limits-requires
+in-limits-requires c κs = search needs
+
+refuse-requires-2 : tie.Need-refuse-requires-2
+refuse-requires-2 c κs = search needs
+
+returns-2 : tie.Need-returns-2
+unfolding storedOr12
+returns-2 c = c .refuse2 .ensures ∙ sym (row-holds 12 _ _ (omega arith) (ap not (sym (c .before .before .in-limits .ensures)) ∙ c .before .if2 .taken)) ∙ given (c .before .before .before)
+
+returns-3 : tie.Need-returns-3
+unfolding storedOr12
+returns-3 c = sym (row-passed 12 _ _ (ap not (sym (c .before .in-limits .ensures)) ∙ c .if2 .left)) ∙ given (c .before .before)
+
+pub post-spec : {M : Type 1} → statement M
+post-spec =
+    tie.close
+    (tie.spec
+    refusal-before-requires
+    refuse-requires
+    returns
+    effect-requires
+    in-limits-requires
+    refuse-requires-2
+    returns-2
+    returns-3)
