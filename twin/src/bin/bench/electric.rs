@@ -2,13 +2,10 @@
 
 use crate::measure::{add, row, CASES, SEED};
 use std::hint::black_box;
-use twin::electric::{
-    is_settling, open, post, ElectricBook, Posted, ADJUST, BILL, COST, L_AND_P, MONTH_END, MPS,
-    SALES, SETTLE,
-};
+use twin::electric::{is_settling, open, post, ElectricBook, Posted, L_AND_P, MPS};
 use twin::proved;
 use twin::random::Random;
-use twin::records::Posting;
+use twin::records::{Posting, ADJUST, BILL, COST, MONTH_END, SALES, SETTLE};
 
 const KINDS: [(u8, &str); 6] = [
     (COST, "electric_cost"),
