@@ -3,8 +3,9 @@
 //! The layouts are those of C, as the proved functions take and give them.
 
 use crate::amounts::{cents_within_limits, factor_within_limits, Run};
-use crate::calendar::{is_month, AUGUST, DECEMBER, FEBRUARY, JANUARY, JUNE, MARCH, MAY};
-use crate::calendar::{NOVEMBER, SEPTEMBER};
+use crate::calendar::{
+    is_month, AUGUST, DECEMBER, FEBRUARY, JANUARY, JUNE, MARCH, MAY, NOVEMBER, SEPTEMBER,
+};
 
 /// The most mmBtu of a quarter, open or past.
 pub const SALES_LIMIT: i64 = 100_000_000;
@@ -133,7 +134,10 @@ impl SteamBook {
                 .all(|&sales| sales_within_limits(sales))
             && cents_within_limits(self.carried)
             && self.pending.within_limits()
-            && self.factors.iter().all(|&f| factor_within_limits(f))
+            && self
+                .factors
+                .iter()
+                .all(|&factor| factor_within_limits(factor))
             && self.dues.iter().all(|&due| cents_within_limits(due))
             && self.reconciliation.within_limits()
     }

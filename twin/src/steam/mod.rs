@@ -10,8 +10,9 @@ pub use settlement::{annual_sales, share, shares_fit_variances, Open, Shared};
 
 use crate::posted::{self, accepted, refused};
 use crate::records::Posting;
-use crate::refusals::RECONCILIATION_RUNS;
-use crate::refusals::{BOOK_OUTSIDE_LIMITS, FIELD_OUT_OF_RANGE, FORBIDDEN_NOW};
+use crate::refusals::{
+    BOOK_OUTSIDE_LIMITS, FIELD_OUT_OF_RANGE, FORBIDDEN_NOW, RECONCILIATION_RUNS,
+};
 use crate::written::Refusal;
 use entry::Entry;
 

@@ -3,7 +3,7 @@
 use crate::driver::Driver;
 use crate::met::{seeded, Met};
 use crate::postings::KINDS;
-use crate::sides::{opened, post, NUMBERS_FROM_FRESH};
+use crate::sides::{open, opened, post, NUMBERS_FROM_FRESH};
 use crate::stored::{CENTS, STORED};
 use twin::random::Random;
 use twin::records::{Posting, ADJUST, COST, MONTH_END, RECONCILE, SALES, SETTLE};
@@ -116,14 +116,8 @@ fn quarters(random: &mut Random) -> [i64; 4] {
 /// One history, which must keep the claim; gives what was met in it.
 fn run(seed: u64, postings: usize, limits: &mut AtLimits) -> Met {
     let (mut random, origin) = seeded(seed);
-    let mut last = Posted {
-        book: opened(quarters(&mut random)),
-        reply: twin::posted::Reply {
-            number: 0,
-            first: 0,
-            second: 0,
-        },
-    };
+    let mut last = open(quarters(&mut random));
+    assert_eq!(last.reply.number, 0, "opening, {origin}");
     let mut driver = Driver::new(random, seed % 3 == 1);
     let mut met = Met::default();
     let mut tally = Tally::default();

@@ -5,11 +5,11 @@ use crate::sides::{expect, expect_all, expect_refusal, opened};
 use crate::stored::CENTS;
 use twin::amounts::Run;
 use twin::calendar::{AUGUST, FEBRUARY, JANUARY, MAY, NOVEMBER};
-use twin::steam::{entering, is_settling, Reconciliation, SteamBook};
+use twin::steam::{Reconciliation, SteamBook};
 
 /// Ends the month, settling before it where the month wants it, at the base.
 fn end_month(book: SteamBook) -> SteamBook {
-    match is_settling(book.month) {
+    match book.month % 3 == 0 {
         true => expect_all(book, &[cost(601), sales(2), settle(0), month_end()]),
         false => expect(0, book, month_end()),
     }
@@ -67,7 +67,8 @@ fn joining(month: u8, carried: i64, run_due: i64, reconciled: i64, months: u8) -
     let mut book = opened([5; 4]);
     book.month = month;
     book.carried = carried;
-    let run = entering(month).expect("a run is entered in the month");
+    // February, May, August and November, in the order of the runs.
+    let run = usize::from(month / 3);
     book.dues[run] = run_due;
     book.reconciliation = Reconciliation {
         run: Run {
