@@ -153,6 +153,21 @@ fn month_and_settled_state_forbid_what_the_paper_says() {
 }
 
 #[test]
+fn a_quarter_without_sales_neither_settles_nor_ends() {
+    for month in [3, 6, 9, 12] {
+        let mut unsold = book(month, false);
+        unsold.period.sales = 0;
+        unsold.period.cost = 0;
+        expect_refusal(10, unsold, settle(0));
+        expect_refusal(8, unsold, month_end());
+        // One mmBtu is enough.
+        let sold = expect(0, unsold, sales(1));
+        let settled = expect(-8, sold, settle(0));
+        expect(0, settled, month_end());
+    }
+}
+
+#[test]
 fn a_second_reconciliation_waits_for_the_first() {
     for months in 1..=24 {
         let mut busy = book(JANUARY, false);
