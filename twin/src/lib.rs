@@ -1,13 +1,18 @@
-//! A second, independent ledger: arithmetic, text, records, a book, and the proved ones beside.
+//! A second, independent ledger: arithmetic, text, records, both books, and the proved ones beside.
 
 #![deny(unsafe_code)]
 
+pub mod amounts;
+pub mod calendar;
 pub mod electric;
+pub mod posted;
 #[allow(unsafe_code)]
 pub mod proved;
 pub mod random;
 pub mod records;
+pub mod refusals;
 pub mod rounding;
+pub mod steam;
 pub mod tally;
 pub mod text;
 pub mod written;

@@ -1,12 +1,16 @@
 //! The proved functions of the static library, as safe functions.
 
-use crate::electric::{ElectricBook, Posted, Reply};
+use crate::electric::ElectricBook;
+use crate::posted::{Posted, Reply};
 use crate::records::{Book, Posting, Read};
+use crate::steam::SteamBook;
 use crate::written::Written;
 
 mod exported {
-    use crate::electric::{ElectricBook, Posted};
+    use crate::electric::ElectricBook;
+    use crate::posted::Posted;
     use crate::records::Posting;
+    use crate::steam::SteamBook;
 
     /// Number 0: the posting was found, and the place is the next one.
     #[repr(C)]
@@ -46,8 +50,18 @@ mod exported {
             buffer: *mut u8,
             length: usize,
         ) -> Writing;
-        pub fn neapscroll_electric_open(division: u8) -> Posted;
-        pub fn neapscroll_electric_post(book: ElectricBook, posting: Posting) -> Posted;
+        pub fn neapscroll_electric_open(division: u8) -> Posted<ElectricBook>;
+        pub fn neapscroll_electric_post(
+            book: ElectricBook,
+            posting: Posting,
+        ) -> Posted<ElectricBook>;
+        pub fn neapscroll_steam_open(
+            first: i64,
+            second: i64,
+            third: i64,
+            fourth: i64,
+        ) -> Posted<SteamBook>;
+        pub fn neapscroll_steam_post(book: SteamBook, posting: Posting) -> Posted<SteamBook>;
     }
 }
 
@@ -98,22 +112,37 @@ pub fn write_record(book: Book, posting: Posting, buffer: &mut [u8]) -> Written 
     written(unsafe { exported::neapscroll_write_record(steam, posting, start, length) })
 }
 
-/// The fresh book of the division, as proved.
+/// The fresh electric book of the division, as proved.
 #[inline]
-pub fn electric_open(division: u8) -> Posted {
+pub fn electric_open(division: u8) -> Posted<ElectricBook> {
     // SAFETY: the function is total on bytes and touches no memory of its caller.
     posted(unsafe { exported::neapscroll_electric_open(division) })
 }
 
-/// What the posting gives, as proved.
+/// What the posting to the electric book gives, as proved.
 #[inline]
-pub fn electric_post(book: ElectricBook, posting: Posting) -> Posted {
+pub fn electric_post(book: ElectricBook, posting: Posting) -> Posted<ElectricBook> {
     // SAFETY: the function is total on books and postings and touches no memory of its caller.
     posted(unsafe { exported::neapscroll_electric_post(book, posting) })
 }
 
+/// The fresh steam book of the quarters, oldest first, as proved.
 #[inline]
-fn posted(posted: Posted) -> Posted {
+pub fn steam_open(quarters: [i64; 4]) -> Posted<SteamBook> {
+    let [first, second, third, fourth] = quarters;
+    // SAFETY: the function is total on 64-bit numbers and touches no memory of its caller.
+    posted(unsafe { exported::neapscroll_steam_open(first, second, third, fourth) })
+}
+
+/// What the posting to the steam book gives, as proved.
+#[inline]
+pub fn steam_post(book: SteamBook, posting: Posting) -> Posted<SteamBook> {
+    // SAFETY: the function is total on books and postings and touches no memory of its caller.
+    posted(unsafe { exported::neapscroll_steam_post(book, posting) })
+}
+
+#[inline]
+fn posted<Book>(posted: Posted<Book>) -> Posted<Book> {
     if posted.reply.number != 0 {
         refused_posting(posted.reply);
     }

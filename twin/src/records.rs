@@ -1,6 +1,16 @@
 //! The paper's posting records: a kind, a bit map, and the fields that are not 0.
 
+use crate::refusals::{FIELD_LACKED_BY_KIND, UNKNOWN_KIND};
 use crate::written::{Refusal, Written, BUFFER_TOO_SHORT};
+
+pub const COST: u8 = 1;
+pub const SALES: u8 = 2;
+pub const BILL: u8 = 3;
+pub const SETTLE: u8 = 4;
+pub const MONTH_END: u8 = 5;
+pub const ADJUST: u8 = 6;
+/// Of the steam book alone.
+pub const RECONCILE: u8 = 7;
 
 #[derive(Clone, Copy, Debug, PartialEq, Eq)]
 pub enum Book {
@@ -36,10 +46,14 @@ const HEAD_LENGTH: usize = 2;
 const FIELD_LENGTH: usize = 8;
 
 const NO_HEAD: Refusal = 1;
-pub(crate) const UNKNOWN_KIND: Refusal = 2;
-pub(crate) const FIELD_LACKED_BY_KIND: Refusal = 3;
 const RECORD_CUT: Refusal = 4;
 const FIELD_OF_ZERO: Refusal = 5;
+
+/// Whether a field is within so much of 0.
+#[inline]
+pub(crate) fn is_signed(number: i64, most: i64) -> bool {
+    (-most..=most).contains(&number)
+}
 
 impl Book {
     /// The bits that the fields of the kind have, if the book has the kind.

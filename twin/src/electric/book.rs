@@ -2,11 +2,8 @@
 //!
 //! The layouts are those of C, as the proved functions take and give them.
 
-/// The most cents stored, of either sign.
-pub const CENTS_LIMIT: i64 = 1_000_000_000_000;
-
-/// The largest factor stored, of either sign.
-pub const FACTOR_LIMIT: i32 = 99_999;
+use crate::amounts::{cents_within_limits, Run};
+use crate::calendar::{is_month, JUNE, MAY, NOVEMBER};
 
 /// The most open kWh of a level.
 pub const KWH_LIMIT: i64 = 10_000_000_000;
@@ -14,25 +11,9 @@ pub const KWH_LIMIT: i64 = 10_000_000_000;
 /// Half of the divisor of the share, so no rounded share leaves more.
 pub const REMAINDER_LIMIT: i64 = 50_000;
 
-pub const JANUARY: u8 = 1;
-pub const FEBRUARY: u8 = 2;
-pub const MAY: u8 = 5;
-pub const JUNE: u8 = 6;
-pub const AUGUST: u8 = 8;
-pub const NOVEMBER: u8 = 11;
-pub const DECEMBER: u8 = 12;
-
 /// The two divisions.
 pub const L_AND_P: u8 = 0;
 pub const MPS: u8 = 1;
-
-/// A factor in points, and the cents still due by it.
-#[repr(C)]
-#[derive(Clone, Copy, Debug, Default, PartialEq, Eq)]
-pub struct Run {
-    pub factor: i32,
-    pub due: i64,
-}
 
 /// A level of customers.
 #[repr(C)]
@@ -86,25 +67,8 @@ pub fn is_settling(month: u8) -> bool {
 }
 
 #[inline]
-pub fn cents_within_limits(cents: i64) -> bool {
-    (-CENTS_LIMIT..=CENTS_LIMIT).contains(&cents)
-}
-
-#[inline]
-pub fn factor_within_limits(factor: i32) -> bool {
-    (-FACTOR_LIMIT..=FACTOR_LIMIT).contains(&factor)
-}
-
-#[inline]
 pub fn kwh_within_limits(kwh: i64) -> bool {
     (0..=KWH_LIMIT).contains(&kwh)
-}
-
-impl Run {
-    #[inline]
-    fn within_limits(&self) -> bool {
-        factor_within_limits(self.factor) && cents_within_limits(self.due)
-    }
 }
 
 impl Level {
@@ -167,7 +131,7 @@ impl ElectricBook {
     #[inline]
     pub fn within_limits(&self) -> bool {
         self.division <= MPS
-            && (JANUARY..=DECEMBER).contains(&self.month)
+            && is_month(self.month)
             && (!self.settled || is_settling(self.month))
             && self.period.within_limits()
             && self.secondary.within_limits()

@@ -1,14 +1,8 @@
 //! A posting as the electric book understands it, with the ranges of its fields.
 
-use crate::records::{Posting, FIELD_LACKED_BY_KIND, UNKNOWN_KIND};
+use crate::records::{is_signed, Posting, ADJUST, BILL, COST, MONTH_END, SALES, SETTLE};
+use crate::refusals::{FIELD_LACKED_BY_KIND, UNKNOWN_KIND};
 use crate::written::Refusal;
-
-pub const COST: u8 = 1;
-pub const SALES: u8 = 2;
-pub const BILL: u8 = 3;
-pub const SETTLE: u8 = 4;
-pub const MONTH_END: u8 = 5;
-pub const ADJUST: u8 = 6;
 
 const CENTS_MOST: i64 = 10_000_000_000;
 const KWH_MOST: i64 = 10_000_000_000;
@@ -82,9 +76,4 @@ impl Entry {
 #[inline]
 fn is_level(number: i64) -> bool {
     number == 0 || number == 1
-}
-
-#[inline]
-fn is_signed(number: i64, most: i64) -> bool {
-    (-most..=most).contains(&number)
 }

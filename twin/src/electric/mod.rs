@@ -6,35 +6,16 @@ mod riders;
 mod sharing;
 
 pub use book::*;
-pub use entry::{ADJUST, BILL, COST, MONTH_END, SALES, SETTLE};
 pub use sharing::{share, shares_fit_variances, Open, Shared};
 
+use crate::posted::{self, accepted, refused};
 use crate::records::Posting;
+use crate::refusals::{BOOK_OUTSIDE_LIMITS, FIELD_OUT_OF_RANGE, FORBIDDEN_NOW};
 use crate::written::Refusal;
 use entry::Entry;
 
-const BOOK_OUTSIDE_LIMITS: Refusal = 6;
-const FIELD_OUT_OF_RANGE: Refusal = 7;
-const FORBIDDEN_NOW: Refusal = 8;
-
-/// The answer to a posting; its layout is that of C, as the proved functions give it.
-#[repr(C)]
-#[derive(Clone, Copy, Debug, PartialEq, Eq)]
-pub struct Reply {
-    /// The refusal's number, 0 for none.
-    pub number: u8,
-    /// The answer's values in the order in which they are printed, 0 where there are fewer.
-    pub first: i64,
-    pub second: i64,
-}
-
-/// The answer and the book afterwards.
-#[repr(C)]
-#[derive(Clone, Copy, Debug, PartialEq, Eq)]
-pub struct Posted {
-    pub reply: Reply,
-    pub book: ElectricBook,
-}
+/// The answer and the electric book afterwards.
+pub type Posted = posted::Posted<ElectricBook>;
 
 // The proved functions are behind a C call with books by value, so for a fair benchmark these two
 // are as well, and they are never inlined.
@@ -83,24 +64,4 @@ fn is_forbidden(book: &ElectricBook, entry: Entry) -> bool {
         Entry::MonthEnd { .. } => is_settling(book.month) && !book.settled,
         Entry::Bill { .. } | Entry::Adjust { .. } => false,
     }
-}
-
-#[inline]
-fn accepted([first, second]: [i64; 2], book: ElectricBook) -> Posted {
-    let reply = Reply {
-        number: 0,
-        first,
-        second,
-    };
-    Posted { reply, book }
-}
-
-#[inline]
-fn refused(number: Refusal, book: ElectricBook) -> Posted {
-    let reply = Reply {
-        number: number as u8,
-        first: 0,
-        second: 0,
-    };
-    Posted { reply, book }
 }

@@ -1,24 +1,17 @@
 //! What an entry in range does to a book within its limits.
 
-use super::book::{
-    cents_within_limits, factor_within_limits, kwh_within_limits, ElectricBook, Level, Run, Sales,
-    AUGUST, DECEMBER, FEBRUARY, JANUARY,
-};
+use super::book::{kwh_within_limits, ElectricBook, Level, Sales};
 use super::entry::Entry;
 use super::sharing::{share, Open};
+use crate::amounts::{answered, stored_cents, stored_factor, Run};
+use crate::calendar::{month_after, AUGUST, FEBRUARY};
+use crate::posted::{Outcome, DONE};
+use crate::refusals::{NOTHING_SOLD, OUTSIDE_LIMITS};
 use crate::rounding::round;
 use crate::written::Refusal;
 
-const NOTHING_SOLD: Refusal = 10;
-const OUTSIDE_LIMITS: Refusal = 12;
-
 /// A yearly rate in millionths is over this by month.
 const MONTHLY_DIVISOR: i128 = 12_000_000;
-
-/// The values answered, 0 where there are fewer than two, or a refusal with the book half changed.
-type Outcome = Result<[i64; 2], Refusal>;
-
-const DONE: Outcome = Ok([0, 0]);
 
 /// Makes the book the next one, or gives refusal 10 or 12.
 #[inline]
@@ -98,10 +91,7 @@ fn end_month(book: &mut ElectricBook, rate: i64) -> Outcome {
     for level in [&mut book.secondary, &mut book.primary] {
         hand_over(level, book.month)?;
     }
-    book.month = match book.month {
-        DECEMBER => JANUARY,
-        month => month + 1,
-    };
+    book.month = month_after(book.month);
     book.settled = false;
     Ok([secondary_interest, primary_interest])
 }
@@ -131,25 +121,8 @@ fn adjust(level: &mut Level, cents: i64) -> Outcome {
     DONE
 }
 
-fn stored_cents(cents: i128) -> Result<i64, Refusal> {
-    let narrow = i64::try_from(cents).ok();
-    let stored = narrow.filter(|&cents| cents_within_limits(cents));
-    stored.ok_or(OUTSIDE_LIMITS)
-}
-
-fn stored_factor(factor: i128) -> Result<i32, Refusal> {
-    let narrow = i32::try_from(factor).ok();
-    let stored = narrow.filter(|&factor| factor_within_limits(factor));
-    stored.ok_or(OUTSIDE_LIMITS)
-}
-
 fn stored_kwh(kwh: i128) -> Result<i64, Refusal> {
     let narrow = i64::try_from(kwh).ok();
     let stored = narrow.filter(|&kwh| kwh_within_limits(kwh));
     stored.ok_or(OUTSIDE_LIMITS)
-}
-
-/// A value that has no limits of its own, but that those of the others keep small.
-fn answered(value: i128) -> i64 {
-    i64::try_from(value).expect("the limits keep it within 64 bits")
 }

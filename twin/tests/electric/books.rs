@@ -1,8 +1,10 @@
 //! Postings on random books: within their limits, at them, past them, and of any bits.
 
+use crate::fields::Size;
 use crate::halves::halved_sales;
-use crate::postings::{posting_of, spoiled, Size, KINDS};
-use crate::sides::{post, seeded, Met, NUMBERS};
+use crate::met::{seeded, Met};
+use crate::postings::{posting_of, spoiled, KINDS};
+use crate::sides::{post, NUMBERS};
 use crate::stored::{Stored, STORED};
 use twin::electric::{ElectricBook, Sales};
 use twin::random::Random;
@@ -105,7 +107,7 @@ fn postings_on_sound_books_agree() {
     met.print("sound books");
     let without_six: Vec<u8> = NUMBERS.into_iter().filter(|&number| number != 6).collect();
     met.has_numbers(1_000, &without_six);
-    met.has_kinds(1_000);
+    met.has_kinds(1_000, &KINDS);
 }
 
 #[test]

@@ -1,15 +1,14 @@
 //! Postings for long histories: most are accepted, and some drive a value to a limit.
 
+use crate::fields::{field, Size};
 use crate::postings::{
-    adjust, bill, costs, field, month_end, posting_of, ranges, sales, settle, spoiled, Size, KINDS,
+    adjust, bill, costs, month_end, posting_of, ranges, sales, settle, spoiled, KINDS,
 };
 use crate::stored::{CENTS, KWH};
-use twin::electric::{
-    is_settling, share, ElectricBook, Level, Open, ADJUST, AUGUST, BILL, COST, DECEMBER, FEBRUARY,
-    JUNE, MONTH_END, SALES, SETTLE,
-};
+use twin::calendar::{AUGUST, DECEMBER, FEBRUARY, JUNE};
+use twin::electric::{is_settling, share, ElectricBook, Level, Open};
 use twin::random::Random;
-use twin::records::Posting;
+use twin::records::{Posting, ADJUST, BILL, COST, MONTH_END, SALES, SETTLE};
 
 /// The value that postings of a month drive to its limit; a number is a level's.
 #[derive(Clone, Copy, Debug, PartialEq, Eq)]

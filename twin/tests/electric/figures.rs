@@ -2,7 +2,9 @@
 
 use crate::postings::{bill, cost, month_end, sales, settle};
 use crate::sides::{expect, expect_refusal, open};
-use twin::electric::{ElectricBook, Level, Period, Run, NOVEMBER};
+use twin::amounts::Run;
+use twin::calendar::NOVEMBER;
+use twin::electric::{ElectricBook, Level, Period};
 
 /// The book as if it were another month.
 fn in_month(book: ElectricBook, month: u8) -> ElectricBook {

@@ -1,9 +1,11 @@
 //! Halves of either sign at each place where the book rounds, and what is beside them.
 
+use crate::met::{seeded, LISTED};
 use crate::postings::{bill, month_end, settle};
-use crate::sides::{expect, open, post, seeded, LISTED};
+use crate::sides::{expect, open, post};
 use crate::stored::KWH;
-use twin::electric::{ElectricBook, Period, Sales, JUNE, MAY};
+use twin::calendar::{JUNE, MAY};
+use twin::electric::{ElectricBook, Period, Sales};
 use twin::random::Random;
 use twin::rounding::round;
 

@@ -1,11 +1,13 @@
 //! Long histories from fresh books, with the tally's claim after every posting.
 
 use crate::driver::Driver;
-use crate::sides::{open, post, seeded, Met, NUMBERS};
+use crate::met::{seeded, Met};
+use crate::postings::KINDS;
+use crate::sides::{open, post, NUMBERS};
 use crate::stored::{CENTS, STORED};
-use twin::electric::{Posted, ADJUST, COST, MONTH_END, SETTLE};
-use twin::records::Posting;
-use twin::tally::Tally;
+use twin::electric::Posted;
+use twin::records::{Posting, ADJUST, COST, MONTH_END, SETTLE};
+use twin::tally::electric::Tally;
 
 const HISTORIES: u64 = 100;
 const POSTINGS: usize = 30_000;
@@ -107,7 +109,7 @@ fn histories_agree_and_keep_the_claim() {
     // From fresh no book is ever out of its limits.
     let reached: Vec<u8> = NUMBERS.into_iter().filter(|&number| number != 6).collect();
     met.has_numbers(1_000, &reached);
-    met.has_kinds(10_000);
+    met.has_kinds(10_000, &KINDS);
     let accepted = met.numbers[0];
     let total: usize = met.numbers.iter().sum();
     assert!(accepted > total / 2, "{accepted} of {total} accepted");

@@ -1,9 +1,11 @@
 //! Every limit from both sides: of what a book holds, and of what the next book would hold.
 
+use crate::met::LISTED;
 use crate::postings::{adjust, bill, cost, costs, month_end, sales, settle, KINDS};
-use crate::sides::{expect, expect_refusal, open, post, LISTED};
+use crate::sides::{expect, expect_refusal, open, post};
 use crate::stored::{stored, CENTS, KWH, STORED};
-use twin::electric::{ElectricBook, AUGUST, FEBRUARY, JANUARY, JUNE, MAY, NOVEMBER};
+use twin::calendar::{AUGUST, FEBRUARY, JANUARY, JUNE, MAY, NOVEMBER};
+use twin::electric::ElectricBook;
 use twin::records::Posting;
 
 /// A posting that every book within its limits accepts, and that moves nothing.

@@ -4,10 +4,14 @@
 
 mod books;
 mod driver;
+#[path = "../common/fields.rs"]
+mod fields;
 mod figures;
 mod halves;
 mod histories;
 mod limits;
+#[path = "../common/met.rs"]
+mod met;
 mod openings;
 mod postings;
 mod refusals;

@@ -1,7 +1,9 @@
 //! Openings: both divisions, and every byte that is none.
 
 use crate::sides::open;
-use twin::electric::{ElectricBook, Level, Period, Reply, JUNE};
+use twin::calendar::JUNE;
+use twin::electric::{ElectricBook, Level, Period};
+use twin::posted::Reply;
 
 fn fresh(division: u8) -> ElectricBook {
     ElectricBook {

@@ -1,13 +1,10 @@
 //! Postings by the paper's table, apart from both sides.
 
-use twin::electric::{ADJUST, BILL, COST, MONTH_END, SALES, SETTLE};
+use crate::fields::{beyond, field, Range, Size};
 use twin::random::Random;
-use twin::records::Posting;
+use twin::records::{Posting, ADJUST, BILL, COST, MONTH_END, SALES, SETTLE};
 
 pub const KINDS: [u8; 6] = [COST, SALES, BILL, SETTLE, MONTH_END, ADJUST];
-
-/// The lowest and the highest value of a field.
-pub type Range = (i64, i64);
 
 const LEVEL: Range = (0, 1);
 const CENTS: Range = (-10_000_000_000, 10_000_000_000);
@@ -71,34 +68,6 @@ pub fn adjust(level: i64, cents: i64) -> Posting {
     }
 }
 
-/// How large the fields of random postings are.
-#[derive(Clone, Copy, Debug, PartialEq, Eq)]
-pub enum Size {
-    /// A few cents or kWh, so that most quotients are near a half.
-    Tiny,
-    /// As a utility has them.
-    Usual,
-    /// Any number of the range, small ones as well as large ones.
-    Any,
-    /// At an end of the range or beside it.
-    End,
-}
-
-/// A field of the range, of about the size.
-pub fn field(random: &mut Random, (low, high): Range, size: Size) -> i64 {
-    let number = match size {
-        Size::Tiny => random.within(-60, 120),
-        Size::Usual => random.within(-(high / 1_000), high / 10),
-        Size::Any if random.coin() => random.up_to(high),
-        Size::Any => -random.up_to(-low.min(0)),
-        Size::End => {
-            let inside = random.within(0, 2);
-            random.one_of(&[low + inside, high - inside, high, low, 0])
-        }
-    };
-    number.clamp(low, high)
-}
-
 /// A posting of the kind with every field in its range.
 pub fn posting_of(random: &mut Random, kind: u8, size: Size) -> Posting {
     let mut numbers = [0; 3];
@@ -128,16 +97,4 @@ pub fn spoiled(random: &mut Random, mut posting: Posting) -> Posting {
         }
     }
     posting
-}
-
-/// A number outside the range, most often the next one.
-pub fn beyond(random: &mut Random, (low, high): Range) -> i64 {
-    let far = random.up_to(i64::MAX - high - 1);
-    match random.below(8) {
-        0..=2 => low - 1,
-        3..=5 => high + 1,
-        6 => random.one_of(&[high + 1 + far, low - 1 - far, i64::MIN, i64::MAX]),
-        // In the range again once it is cut to 32 bits.
-        _ => 1_i64 << random.within(35, 62),
-    }
 }

@@ -1,11 +1,12 @@
 //! Each refusal on both sides of its condition, and which of two comes first.
 
+use crate::met::LISTED;
 use crate::postings::{adjust, bill, cost, costs, month_end, ranges, sales, settle, KINDS};
-use crate::sides::{expect, expect_refusal, open, post, LISTED};
-use twin::electric::{
-    ElectricBook, BILL, CENTS_LIMIT, COST, JUNE, MAY, MONTH_END, NOVEMBER, SALES, SETTLE,
-};
-use twin::records::Posting;
+use crate::sides::{expect, expect_refusal, open, post};
+use twin::amounts::CENTS_LIMIT;
+use twin::calendar::{JUNE, MAY, NOVEMBER};
+use twin::electric::ElectricBook;
+use twin::records::{Posting, BILL, COST, MONTH_END, SALES, SETTLE};
 
 /// A book with sales to settle that cost the base, so that no share is left, in the month.
 fn book(month: u8, settled: bool) -> ElectricBook {

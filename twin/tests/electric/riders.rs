@@ -2,9 +2,9 @@
 
 use crate::postings::{adjust, bill, costs, month_end, sales, settle};
 use crate::sides::expect;
-use twin::electric::{
-    ElectricBook, Level, Period, Run, Sales, AUGUST, DECEMBER, FEBRUARY, JANUARY, MAY, NOVEMBER,
-};
+use twin::amounts::Run;
+use twin::calendar::{AUGUST, DECEMBER, FEBRUARY, JANUARY, MAY, NOVEMBER};
+use twin::electric::{ElectricBook, Level, Period, Sales};
 
 /// A level whose values all differ, each below 100 × the seed.
 fn level(seed: i64) -> Level {

@@ -1,13 +1,13 @@
 //! Wrong books, each the twin's with one change, which the tally's claim must refuse or let pass.
 
 use crate::postings::{adjust, bill, cost, month_end, sales, settle};
-use twin::electric::{
-    is_settling, post, share, ElectricBook, Open, Period, Posted, Reply, Run, AUGUST, BILL, COST,
-    DECEMBER, FEBRUARY, JANUARY, JUNE, MONTH_END, SETTLE,
-};
-use twin::records::Posting;
+use twin::amounts::Run;
+use twin::calendar::{AUGUST, DECEMBER, FEBRUARY, JANUARY, JUNE};
+use twin::electric::{is_settling, post, share, ElectricBook, Open, Period, Posted};
+use twin::posted::Reply;
+use twin::records::{Posting, BILL, COST, MONTH_END, SETTLE};
 use twin::rounding::{round, weight};
-use twin::tally::Tally;
+use twin::tally::electric::Tally;
 
 /// What a wrong book knows of a posting that the right one would accept.
 struct Step {

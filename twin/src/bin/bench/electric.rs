@@ -1,125 +1,60 @@
-//! Rows of the electric book, a kind at a time and in turn.
+//! Rows of the electric book.
 
-use crate::measure::{add, row, CASES, SEED};
-use std::hint::black_box;
-use twin::electric::{
-    is_settling, open, post, ElectricBook, Posted, ADJUST, BILL, COST, L_AND_P, MONTH_END, MPS,
-    SALES, SETTLE,
-};
+use crate::books::Measured;
+use crate::measure::add;
+use twin::electric::{is_settling, open, post, ElectricBook, Posted, L_AND_P, MPS};
 use twin::proved;
 use twin::random::Random;
-use twin::records::Posting;
+use twin::records::{Posting, ADJUST, BILL, COST, MONTH_END, SALES, SETTLE};
 
-const KINDS: [(u8, &str); 6] = [
-    (COST, "electric_cost"),
-    (SALES, "electric_sales"),
-    (BILL, "electric_bill"),
-    (SETTLE, "electric_settle"),
-    (MONTH_END, "electric_month_end"),
-    (ADJUST, "electric_adjust"),
-];
-
-/// A book, and a posting that it accepts.
-type Case = (ElectricBook, Posting);
-
-pub fn rows() {
-    let mut random = Random::new(SEED);
-    for (kind, name) in KINDS {
-        let cases = cases_of(kind, &mut random);
-        row(
-            name,
-            || post_each(&cases, proved::electric_post),
-            || post_each(&cases, twin_post),
-        );
-    }
-    let history = history(L_AND_P, &mut random);
-    let postings: Vec<Posting> = history.into_iter().map(|(_, posting)| posting).collect();
-    row(
-        "electric_history",
-        || post_in_turn(&postings, proved::electric_post),
-        || post_in_turn(&postings, twin_post),
-    );
-}
-
-/// The twin's call in the same wrapping as the proved one's.
-#[inline]
-fn twin_post(book: ElectricBook, posting: Posting) -> Posted {
-    post(book, posting)
-}
-
-/// Posts to each book by itself, and gives a checksum of answers and books.
-fn post_each(cases: &[Case], post: impl Fn(ElectricBook, Posting) -> Posted) -> u64 {
-    let cases = black_box(cases).iter();
-    let sum = cases.fold(0, |sum, &(book, posting)| {
-        let posted = post(book, posting);
-        add_level_values(add_answer(sum, &posted), &posted.book)
-    });
-    black_box(sum)
-}
-
-/// Posts each to the book that the one before gave, and gives a checksum of answers and the end.
-fn post_in_turn(postings: &[Posting], post: impl Fn(ElectricBook, Posting) -> Posted) -> u64 {
-    let (mut book, mut sum) = (open(L_AND_P).book, 0);
-    for &posting in black_box(postings) {
-        let posted = post(book, posting);
-        sum = add_answer(sum, &posted);
-        book = posted.book;
-    }
-    black_box(add_level_values(sum, &book))
-}
-
-fn add_answer(sum: u64, posted: &Posted) -> u64 {
-    let reply = &posted.reply;
-    let sum = add(sum, reply.number.into());
-    add(add(sum, reply.first as u64), reply.second as u64)
-}
-
-/// One value that each kind changes.
-fn add_level_values(sum: u64, book: &ElectricBook) -> u64 {
-    let level = &book.secondary;
-    let values = [
-        book.period.cost,
-        book.period.sales.primary,
-        level.carried,
-        level.first.due,
-        level.pending.due,
-        book.primary.interest,
+impl Measured for ElectricBook {
+    const KINDS: &[(u8, &str)] = &[
+        (COST, "electric_cost"),
+        (SALES, "electric_sales"),
+        (BILL, "electric_bill"),
+        (SETTLE, "electric_settle"),
+        (MONTH_END, "electric_month_end"),
+        (ADJUST, "electric_adjust"),
     ];
-    let sum = add(sum, book.month.into());
-    values
-        .iter()
-        .fold(sum, |sum, &value| add(sum, value as u64))
-}
+    const HISTORY: &str = "electric_history";
 
-/// Accepted postings of the kind, from as many histories as have them.
-fn cases_of(kind: u8, random: &mut Random) -> Vec<Case> {
-    let mut cases = Vec::new();
-    while cases.len() < CASES {
-        let division = random.one_of(&[L_AND_P, MPS]);
-        let of_kind = |case: &Case| case.1.kind == kind;
-        cases.extend(history(division, random).into_iter().filter(of_kind));
+    fn fresh(random: &mut Random) -> Self {
+        open(random.one_of(&[L_AND_P, MPS])).book
     }
-    cases.truncate(CASES);
-    cases
-}
 
-/// Some years from a fresh book, each posting with the book that it is for.
-fn history(division: u8, random: &mut Random) -> Vec<Case> {
-    let mut book = open(division).book;
-    let mut history = Vec::new();
-    while history.len() < CASES {
-        for posting in month(&book, random) {
-            history.push((book, posting));
-            let posted = post(book, posting);
-            assert_eq!(posted.reply.number, 0, "{posting:?} on {book:?}");
-            book = posted.book;
-        }
+    #[inline]
+    fn post_proved(self, posting: Posting) -> Posted {
+        proved::electric_post(self, posting)
     }
-    history.truncate(CASES);
-    history
+
+    #[inline]
+    fn post_twin(self, posting: Posting) -> Posted {
+        post(self, posting)
+    }
+
+    fn month(&self, random: &mut Random) -> Vec<Posting> {
+        month(self, random)
+    }
+
+    #[inline]
+    fn add_values(&self, sum: u64) -> u64 {
+        let level = &self.secondary;
+        let values = [
+            self.period.cost,
+            self.period.sales.primary,
+            level.carried,
+            level.first.due,
+            level.pending.due,
+            self.primary.interest,
+        ];
+        let sum = add(sum, self.month.into());
+        values
+            .iter()
+            .fold(sum, |sum, &value| add(sum, value as u64))
+    }
 }
 
-/// The postings of a month as a utility has them: most are bills.
+/// Most postings of a month are bills.
 fn month(book: &ElectricBook, random: &mut Random) -> Vec<Posting> {
     let posting = |kind, numbers| Posting { kind, numbers };
     let mut postings = Vec::new();

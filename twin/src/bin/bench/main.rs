@@ -3,11 +3,16 @@
 #![forbid(unsafe_code)]
 
 mod arithmetic;
+mod books;
 mod electric;
 mod measure;
 mod records;
+mod steam;
 mod text;
 mod writers;
+
+use twin::electric::ElectricBook;
+use twin::steam::SteamBook;
 
 // A proved function is behind a C call, so the twin's function is kept `#[inline(never)]`.
 fn main() {
@@ -19,5 +24,6 @@ fn main() {
     arithmetic::rows();
     records::rows();
     text::rows();
-    electric::rows();
+    books::rows::<ElectricBook>();
+    books::rows::<SteamBook>();
 }

@@ -1,10 +1,8 @@
-//! The paper's tally of an electric book, which sees postings and answers but never the book.
+//! The tally of an electric book.
 
-use crate::electric::{
-    share, shares_fit_variances, ElectricBook, Level, Open, Reply, ADJUST, BILL, COST, MONTH_END,
-    SALES, SETTLE,
-};
-use crate::records::Posting;
+use crate::electric::{share, shares_fit_variances, ElectricBook, Level, Open};
+use crate::posted::Reply;
+use crate::records::{Posting, ADJUST, BILL, COST, MONTH_END, SALES, SETTLE};
 use crate::rounding::round;
 
 /// The sums of a level since opening, and its interest since the settlement before.
