@@ -15,6 +15,7 @@ ghost use Rattle.host.specs.Books.{bookOf};
 
 mod electric_book;
 mod replies;
+mod steam_book;
 
 // round(a/b); a divisor below 1 gives 0.
 #[no_mangle]

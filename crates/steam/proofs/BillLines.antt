@@ -87,7 +87,6 @@ module _ (u : ℤ) (b : SteamBook) where
     line-4 =
         by-sum 4 _
         (solve 5 (λ u f g h k. u :* (f :+ g :+ h :+ k) := u :* (f :+ (g :+ (h :+ (k :+ # 0))))) tt u (factorAt b 0) (factorAt b 1) (factorAt b 2) (factorAt b 3))
-       
 
     -- all five make the bill's own line
     all-five : lineUpTo 5 ≡ lineOf u (factorsOf b)
@@ -98,7 +97,6 @@ module _ (u : ℤ) (b : SteamBook) where
         by-sum 5 _
         (solve 6 (λ u f g h k r. u :* (f :+ g :+ h :+ k :+ r) := u :* (f :+ (g :+ (h :+ (k :+ (r :+ # 0)))))) tt
         u (factorAt b 0) (factorAt b 1) (factorAt b 2) (factorAt b 3) (lastFactor b))
-       
         ∙ all-five
 
     -- ---- what each run loses
@@ -113,9 +111,9 @@ module _ (u : ℤ) (b : SteamBook) where
     dues-fall four =
         ap
         (λ (none : ℤ).
-          cents (dueAt b 0 -ℤ (lineUpTo 1 -ℤ none)) ∷ cents (dueAt b 1 -ℤ (lineUpTo 2 -ℤ lineUpTo 1)) ∷ cents (dueAt b 2 -ℤ (lineUpTo 3 -ℤ lineUpTo 2))
-          ∷ cents (dueAt b 3 -ℤ (lineUpTo 4 -ℤ lineUpTo 3))
-          ∷ [])
+        cents (dueAt b 0 -ℤ (lineUpTo 1 -ℤ none)) ∷ cents (dueAt b 1 -ℤ (lineUpTo 2 -ℤ lineUpTo 1)) ∷ cents (dueAt b 2 -ℤ (lineUpTo 3 -ℤ lineUpTo 2))
+        ∷ cents (dueAt b 3 -ℤ (lineUpTo 4 -ℤ lineUpTo 3))
+        ∷ [])
         (sym (no-line u))
         ∙ ap (duesLess (partOf u (factorsOf b))) (sym (as-four (cents (pos 0)) (b .dues) four))
 

@@ -83,11 +83,7 @@ pub(crate) fn dues_less(book: SteamBook, posting: Posting, lines: Lines) -> [Cen
 }
 
 // What is due under the reconciliation falls by the rest of the line.
-pub(crate) fn reconciliation_less(
-    book: SteamBook,
-    posting: Posting,
-    lines: Lines,
-) -> Reconciliation
+pub(crate) fn reconciliation_less(book: SteamBook, posting: Posting, lines: Lines) -> Reconciliation
     requires { ⌜ BookWithin book × Ranged Book.Steam bill posting × (lines ≡ linesOf (posting .first) (factorsOf book)) ⌝ }
     ensures { λ r. ⌜ r ≡ reconciliationOf (dueLess (partOf (posting .first) (factorsOf book) 4) (book .reconciliation .run)) (book .reconciliation .months) ⌝ }
 {

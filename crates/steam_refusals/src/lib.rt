@@ -31,8 +31,7 @@ fn sold_nothing(book: SteamBook, posting: Posting) -> bool
     ensures { λ r. ⌜ r ≡ nothingSold (kindOf (posting .kind)) book posting ⌝ }
 {
     if posting.kind == 4 {
-        return (book.period.sales.0 == 0)
-            | (determinants::determinants_of(book, posting).0 < 1);
+        return (book.period.sales.0 == 0) | (determinants::determinants_of(book, posting).0 < 1);
     }
     false
 }

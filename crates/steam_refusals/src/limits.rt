@@ -21,8 +21,7 @@ fn remainder_in_limits(remainder: Remainder) -> bool
 fn period_in_limits(period: Period) -> bool
     ensures { λ r. ⌜ r ≡ periodInLimits period ⌝ }
 {
-    period.cost.in_limits()
-        & (period.sales.in_limits() & remainder_in_limits(period.remainder))
+    period.cost.in_limits() & (period.sales.in_limits() & remainder_in_limits(period.remainder))
 }
 
 fn factors_in_limits(factors: [Points; 4]) -> bool
@@ -68,7 +67,8 @@ pub fn in_limits(book: SteamBook) -> bool
         book.month,
         crate::calendar::settles(book.month),
         book.settled,
-    ) & (period_in_limits(book.period)
-        & (steam_rules::quarters_in_limits(quarters)
-            & (book.carried.in_limits() & runs_in_limits(book))))
+    )
+        & (period_in_limits(book.period)
+            & (steam_rules::quarters_in_limits(quarters)
+                & (book.carried.in_limits() & runs_in_limits(book))))
 }

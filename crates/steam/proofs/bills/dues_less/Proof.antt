@@ -53,11 +53,11 @@ returns c = let s = c .before .before .before .before .before .before .before .b
     let e = w .2 in
     let due = dueAt (s .t1) in
     (λ i.
-      c .before .before .before .before .before .before .due-less .ensures i ∷ c .before .before .before .before .due-less2 .ensures i ∷ c .before .before .due-less3 .ensures i ∷ c .due-less4 .ensures i ∷ [])
+    c .before .before .before .before .before .before .due-less .ensures i ∷ c .before .before .before .before .due-less2 .ensures i ∷ c .before .before .due-less3 .ensures i ∷ c .due-less4 .ensures i ∷ [])
     ∙ (λ i.
-      cents (due 0 -ℤ (e i .first .0 -ℤ pos 0)) ∷ cents (due 1 -ℤ (e i .second .0 -ℤ e i .first .0)) ∷ cents (due 2 -ℤ (e i .third .0 -ℤ e i .second .0))
-      ∷ cents (due 3 -ℤ (e i .fourth .0 -ℤ e i .third .0))
-      ∷ [])
+    cents (due 0 -ℤ (e i .first .0 -ℤ pos 0)) ∷ cents (due 1 -ℤ (e i .second .0 -ℤ e i .first .0)) ∷ cents (due 2 -ℤ (e i .third .0 -ℤ e i .second .0))
+    ∷ cents (due 3 -ℤ (e i .fourth .0 -ℤ e i .third .0))
+    ∷ [])
     ∙ dues-fall (s .posting .first) (s .t1) (w .0 .runs .factors .count) (w .0 .runs .dues .count)
 
 pub dues-less-spec : {M : Type 1} → statement M

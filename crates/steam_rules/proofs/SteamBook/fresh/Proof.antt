@@ -23,17 +23,17 @@ none-requires-3 c κs = search needs
 returns : tie.Need-returns
 returns c = let quarters = c .before .before .before .args .quarters in
     let part : Period → Run → Reconciliation → SteamBook = λ period pending reconciliation.
-      record {
-        month = 1;
-        settled = false;
-        period = period;
-        quarters = quarters;
-        carried = cents (pos 0);
-        pending = pending;
-        factors = four (points (pos 0));
-        dues = four (cents (pos 0));
-        reconciliation = reconciliation;
-      }
+    record {
+      month = 1;
+      settled = false;
+      period = period;
+      quarters = quarters;
+      carried = cents (pos 0);
+      pending = pending;
+      factors = four (points (pos 0));
+      dues = four (cents (pos 0));
+      reconciliation = reconciliation;
+    }
     in
     λ i. part (c .before .before .none .ensures i) (c .before .none2 .ensures i) (c .none3 .ensures i)
 

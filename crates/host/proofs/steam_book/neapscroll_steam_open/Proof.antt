@@ -1,0 +1,26 @@
+-- `neapscroll_steam_open` hands on what the opening gives. Assumes nothing.
+use mathlib.Core.Path.{ap, _∙_}
+use mathlib.Core.List.{[], _∷_}
+use mir.Facts.{toZ-ofZ}
+use Rattle.steam_rules.specs.Book.{mmbtu}
+use Rattle.steam_rules.specs.Opening.{openedOf}
+use Rattle.host.specs.Replies.{steamReply}
+use borrow.Author.Needs.{needs}
+use Rattle.host.proofs.steam_book.neapscroll_steam_open.Statement.{statement}
+use Rattle.host.proofs.steam_book.neapscroll_steam_open.Tie as tie
+
+open-requires : tie.Need-open-requires
+open-requires c κs = search needs
+
+reply-with-requires : tie.Need-reply-with-requires
+reply-with-requires c κs = search needs
+
+returns : tie.Need-returns
+returns c = let f = c .before .before .fits in
+    c .reply-with .ensures
+    ∙ ap steamReply
+    (c .before .«open» .ensures
+    ∙ (λ i. openedOf (mmbtu (toZ-ofZ (f .first) i) ∷ mmbtu (toZ-ofZ (f .second) i) ∷ mmbtu (toZ-ofZ (f .third) i) ∷ mmbtu (toZ-ofZ (f .fourth) i) ∷ [])))
+
+pub neapscroll-steam-open-spec : {M : Type 1} → statement M
+neapscroll-steam-open-spec = tie.close (tie.spec open-requires reply-with-requires returns)
