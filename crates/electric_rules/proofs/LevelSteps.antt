@@ -1,12 +1,11 @@
 -- A level and its tally: each kind of posting changes both by the same cents, so it keeps what they share. Assumes nothing.
 use mathlib.Core.Path.{_≡_, refl, sym, ap, _∙_}
-use mathlib.Core.Bool.{Bool, true, false, cond, not, _||_, true≢false}
+use mathlib.Core.Bool.{Bool, true, false, not, _||_, true≢false}
 use Prim.Native.Nat.{ℕ}
 use lib.Dec.{T}
 use lib.IntN.{ℤ, pos, _+ℤ_, _-ℤ_}
-use Rattle.ints.specs.Flags.{T-true}
 use Rattle.ints.specs.Ring.{solve, eq-by, _:+_, _:-_, _:*_, _:=_, #}
-use Rattle.riders.specs.Runs.{noRun}
+use Rattle.riders.specs.Waiting.{none-pending}
 use Rattle.electric_rules.proofs.Waiting.{enters}
 use Rattle.electric_rules.proofs.Held.{held-billed, held-adjusted, held-settled, held-accrued, bearing-held, handed-over}
 use Rattle.electric_rules.specs.declared.Level.{Level}
@@ -93,13 +92,8 @@ module _ {clear : Bool} (l : Level) (t : LevelTally) (k : LevelKept clear l t) w
       record {
         balances = ap (λ (held : ℤ). t .billed +ℤ held) (handed .held) ∙ k .balances;
         accrued = (λ i. handed .interest i .0) ∙ k .accrued;
-        pending = λ c. (λ i. handed .pending i .due .0) ∙ go after (enters n) h c;
+        pending = λ c. (λ i. handed .pending i .due .0) ∙ none-pending after (enters n) clear (l .pending) h (k .pending) c;
       }
-    where
-      go : (after entered : Bool) → T (not after || (entered || clear)) → after ≡ true → cond entered noRun (l .pending) .due .0 ≡ pos 0
-      go true true h c = refl
-      go true false h c = k .pending (T-true clear h)
-      go false entered h c = absurd (true≢false (sym c))
 
 -- a month's end: interest, then the run that enters
 pub ended-keeps :
