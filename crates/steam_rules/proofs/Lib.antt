@@ -1,0 +1,4 @@
+-- That no cent is lost over any list of postings, in the order in which to read it; and of one posting, that a refusal changes nothing.
+pub mod Waiting
+pub mod Held
+pub mod Shares
