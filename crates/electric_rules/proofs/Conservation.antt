@@ -1,10 +1,10 @@
 -- No cent is lost: what book and tally share is so of a fresh book, each posting keeps it, and so does a list of them; the claim follows
 -- from it. Assumes nothing.
-use mathlib.Core.Path.{_≡_, refl, sym, ap, _∙_, subst}
+use mathlib.Core.Path.{_≡_, refl, sym, ap, subst}
 use mathlib.Core.Bool.{Bool, true, false, cond, not, true≢false}
 use Prim.Native.Nat.{ℕ}
-use lib.Dec.{T, leb}
-use lib.IntN.{ℤ, pos, _+ℤ_, _*ℤ_}
+use lib.Dec.{leb}
+use lib.IntN.{ℤ, pos, _+ℤ_}
 use borrow.Author.Tests.{not-false}
 use Rattle.ints.specs.Flags.{both}
 use Rattle.refusals.specs.Laws.{by-table}

@@ -1,8 +1,8 @@
 -- What settlements keep in the tally: both levels' shares make the period's, so shares and remainder together are the customers' percentage
 -- of the variances, to the last hundred-thousandth of a cent. Assumes nothing.
-use mathlib.Core.Path.{_≡_, subst}
+use mathlib.Core.Path.{subst}
 use native.Mathlib.Omega.{arith}
-use lib.IntN.{ℤ, _+ℤ_, _-ℤ_}
+use lib.IntN.{ℤ, _+ℤ_}
 use Rattle.ints.specs.Ring.{solve, _:+_, _:-_, _:=_}
 use Rattle.electric_rules.specs.declared.Rates.{Rates}
 use Rattle.electric_rules.specs.Settlement.{varianceOf, shareableOf, shareOf, remainderAfter, secondaryShare, primaryShare}

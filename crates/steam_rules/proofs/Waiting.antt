@@ -1,9 +1,9 @@
 -- When nothing can be pending on the steam book, by its calendar. Assumes nothing.
 use mathlib.Core.Path.{_≡_}
 use mathlib.Core.Bool.{Bool, true, false}
-use Prim.Native.Nat.{ℕ, _≤_}
+use Prim.Native.Nat.{ℕ, zero, suc, _≤_}
 use native.Mathlib.Omega.{arith}
-use lib.Dec.{T, leb, ltb, leb→le}
+use lib.Dec.{T, leb, leb→le}
 use Rattle.ints.specs.Flags.{all-below}
 use Rattle.postings.specs.Kinds.{settle, monthEnd}
 use Rattle.riders.specs.Months.{monthAfter, monthInLimits, forbidden, month-to}
@@ -12,7 +12,8 @@ use Rattle.riders.specs.Waiting as waiting
 
 -- a run enters
 abbrev pub enters : ℕ → Bool
-enters n = ltb 0 n
+enters zero = false
+enters (suc i) = true
 
 abbrev pub clear : ℕ → Bool → Bool
 clear = waiting.clear settles entering enters
