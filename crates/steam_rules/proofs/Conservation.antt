@@ -5,7 +5,7 @@ use mathlib.Core.Bool.{Bool, true, false, cond, not, true≢false}
 use mathlib.Core.List.{List}
 use Prim.Native.Nat.{ℕ, zero, suc}
 use lib.IntN.{ℤ, pos, _+ℤ_}
-use Rattle.ints.specs.Ring.{solve, _:+_, _:-_, _:=_}
+use Rattle.ints.specs.Ring.{solve, _:+_, _:=_}
 use Rattle.refusals.specs.Laws.{by-table}
 use Rattle.postings.specs.Kinds.{Kind, cost, sales, bill, settle, monthEnd, adjust, reconcile, unknown, kindOf, tableOf, isNone, unknownKind}
 use Rattle.postings.specs.declared.Book.the-variants.{Steam}
@@ -14,6 +14,7 @@ use Rattle.postings.specs.declared.Answer.the-variants.{Done}
 use Rattle.riders.specs.Runs.{noRun}
 use Rattle.riders.specs.Months.{forbidden}
 use Rattle.riders.specs.Histories.{wasAccepted, lineAnswered, kept-after}
+use Rattle.riders.specs.Balances.{line-billed, amount-added, cents-moved}
 use Rattle.riders.specs.Waiting.{none-pending}
 use Rattle.steam_rules.proofs.Waiting.{enters, clear, settle-clear, month-turns, entering-to}
 use Rattle.steam_rules.proofs.Found.{dates, four-factors, four-dues, none-due}
@@ -101,23 +102,12 @@ module _ (b : SteamBook) (t : Tally) (p : Posting) (k : Kept b t) where
   bill-keeps : not (inLimits b) ≡ false → Keeps bill
   unfolding nextAt answerAt countAt billPosted lineCounted
   bill-keeps limits =
-      let line = billLine (p .first) b in
       record {
         period = k .period;
-        balances =
-            ap (λ (held : ℤ). t .billed +ℤ line +ℤ held) (held-billed b p (four-factors b limits) (four-dues b limits))
-            ∙ solve 3 (λ b h x. b :+ x :+ (h :- x) := b :+ h) tt (t .billed) (heldBy b) line
-            ∙ k .balances;
+        balances = line-billed (t .billed) (heldBy b) (k .balances) (billLine (p .first) b) (held-billed b p (four-factors b limits) (four-dues b limits));
         pending = k .pending;
         shares = k .shares;
       }
-
-  -- what is added to the cents held joins shares or adjustments
-  added : (after : SteamBook) (x : ℤ) → heldBy after ≡ heldBy b +ℤ x → t .billed +ℤ heldBy after ≡ t .shares +ℤ t .adjustments +ℤ x
-  added after x e =
-      ap (λ (held : ℤ). t .billed +ℤ held) e
-      ∙ solve 3 (λ b h x. b :+ (h :+ x) := b :+ h :+ x) tt (t .billed) (heldBy b) x
-      ∙ ap (λ (z : ℤ). z +ℤ x) (k .balances)
 
   settle-keeps : forbidden settle (settles (b .month)) (b .settled) ≡ false → Keeps settle
   unfolding nextAt answerAt countAt settlePosted settleCounted waiting.clear
@@ -127,7 +117,7 @@ module _ (b : SteamBook) (t : Tally) (p : Posting) (k : Kept b t) where
       record {
         period = ap (λ (q : Period). periodOf (pos 0) (pos 0) (remainderAfter q)) (k .period);
         balances =
-            added (settlePosted b p) share (held-settled b p nothing ∙ ap (λ (q : Period). heldBy b +ℤ shareOf q) (k .period))
+            amount-added (t .billed) (heldBy b) (k .balances) share (held-settled b p nothing ∙ ap (λ (q : Period). heldBy b +ℤ shareOf q) (k .period))
             ∙ solve 3 (λ s a x. s :+ a :+ x := s :+ x :+ a) tt (t .shares) (t .adjustments) share;
         pending = λ c. absurd (true≢false (sym c));
         shares = settled-shared t (k .shares);
@@ -142,8 +132,8 @@ module _ (b : SteamBook) (t : Tally) (p : Posting) (k : Kept b t) where
       record {
         period = lost-period months e ∙ entered-period n b ∙ k .period;
         balances =
-            ap (λ (held : ℤ). t .billed +ℤ held) (held-reconciled e ∙ held-entered b n (four-dues b limits) (entering-to (b .month) (b .settled) (dates b limits)))
-            ∙ k .balances;
+            cents-moved (t .billed) (heldBy b) (k .balances)
+            (held-reconciled e ∙ held-entered b n (four-dues b limits) (entering-to (b .month) (b .settled) (dates b limits)));
         pending =
             λ c.
             (λ i. (lost-pending months e ∙ entered-pending n b) i .due .0)
@@ -157,7 +147,7 @@ module _ (b : SteamBook) (t : Tally) (p : Posting) (k : Kept b t) where
       record {
         period = k .period;
         balances =
-            added (adjustPosted b p) (p .first) (held-adjusted b p)
+            amount-added (t .billed) (heldBy b) (k .balances) (p .first) (held-adjusted b p)
             ∙ solve 3 (λ s a x. s :+ a :+ x := s :+ (a :+ x)) tt (t .shares) (t .adjustments) (p .first);
         pending = k .pending;
         shares = k .shares;
@@ -168,7 +158,7 @@ module _ (b : SteamBook) (t : Tally) (p : Posting) (k : Kept b t) where
   reconcile-keeps limits free =
       record {
         period = k .period;
-        balances = ap (λ (held : ℤ). t .billed +ℤ held) (held-reconciling b p (none-due b limits free)) ∙ k .balances;
+        balances = cents-moved (t .billed) (heldBy b) (k .balances) (held-reconciling b p (none-due b limits free));
         pending = k .pending;
         shares = k .shares;
       }
