@@ -1,10 +1,10 @@
 -- No cent is lost: what book and tally share is so of a fresh book, each posting keeps it, and so does a list of them; the claim follows
 -- from it. Assumes nothing.
-use mathlib.Core.Path.{_≡_, refl, sym, ap, _∙_, subst}
+use mathlib.Core.Path.{_≡_, refl, sym, ap, subst}
 use mathlib.Core.Bool.{Bool, true, false, cond, not, true≢false}
 use Prim.Native.Nat.{ℕ}
-use lib.Dec.{T, leb}
-use lib.IntN.{ℤ, pos, _+ℤ_, _*ℤ_}
+use lib.Dec.{leb}
+use lib.IntN.{ℤ, pos, _+ℤ_}
 use borrow.Author.Tests.{not-false}
 use Rattle.ints.specs.Flags.{both}
 use Rattle.refusals.specs.Laws.{by-table}
@@ -12,10 +12,10 @@ use Rattle.postings.specs.Kinds.{Kind, cost, sales, bill, settle, monthEnd, adj
 use Rattle.postings.specs.declared.Book.the-variants.{Electric}
 use Rattle.postings.specs.declared.Posting.{Posting}
 use Rattle.postings.specs.declared.Answer.the-variants.{Done}
-use Rattle.riders.specs.Months.{monthInLimits, settle-allowed, month-to, month-settled, forbidden}
+use Rattle.riders.specs.Months.{monthInLimits, forbidden}
 use Rattle.riders.specs.Histories.{wasAccepted, lineAnswered, kept-after}
-use Rattle.electric_rules.proofs.Waiting.{clear, clear-to-settle, turns, all-turn}
-use Rattle.electric_rules.proofs.Shares.{Shared, fresh-shared, settled-shared, shared-near}
+use Rattle.electric_rules.proofs.Waiting.{clear, settle-clear, month-turns}
+use Rattle.electric_rules.proofs.Shares.{Shared, settled-shared}
 use Rattle.electric_rules.proofs.LevelSteps.{LevelKept, billed-keeps, adjusted-keeps, settled-keeps, ended-keeps}
 use Rattle.electric_rules.specs.declared.Rates.{Rates}
 use Rattle.electric_rules.specs.declared.Period.{Period}
@@ -34,6 +34,7 @@ use Rattle.electric_rules.specs.Refusals.{postOf}
 use Rattle.electric_rules.specs.Tally.{LevelTally, Tally, freshLevelTally, freshTally, withPeriodTally, withLevelTallies, costCounted, salesCounted, lineCounted, shareCounted, settleCounted, interestCounted, adjustmentCounted, countAt, countOf}
 use Rattle.electric_rules.specs.Claim.{Balances, leftBy, answeredBy, NoCentLost}
 use Rattle.riders.specs.Waiting as waiting
+use Rattle.riders.specs.Sharing as sharing
 
 -- nothing can be pending
 abbrev clearIn : ElectricBook → Bool
@@ -86,7 +87,7 @@ module _ (rates : Rates) (b : ElectricBook) (t : Tally) (p : Posting) (k : Kept 
         period = k .period;
         secondary = secondary;
         primary = primary;
-        shares = ((λ i. pos 100000 *ℤ (e i +ℤ f i) +ℤ t .period .remainder .0) ∙ k .shares .0, k .shares .1);
+        shares = subst (λ (shares : ℤ). sharing.Shared 50000 (rates .percentage) shares (t .period .remainder .0) (t .variances)) (λ i. sym e i +ℤ sym f i) (k .shares);
       }
 
   one-level :
@@ -111,8 +112,7 @@ module _ (rates : Rates) (b : ElectricBook) (t : Tally) (p : Posting) (k : Kept 
   settle-keeps : forbidden settle (settles (b .month)) (b .settled) ≡ false → Keeps settle
   unfolding nextAt answerAt countAt settlePosted filedAnswer settleCounted shareCounted waiting.clear
   settle-keeps allowed =
-      let now = settle-allowed (settles (b .month)) (b .settled) allowed in
-      let nothing : clearIn b ≡ true = ap (clear (b .month)) (now .0) ∙ clear-to-settle (b .month) (now .1) in
+      let nothing = settle-clear (b .month) (b .settled) allowed in
       record {
         division = k .division;
         period = λ i. periodOf (pos 0) (salesOf (pos 0) (pos 0)) (remainderAfter (k .division i) (k .period i));
@@ -128,7 +128,7 @@ module _ (rates : Rates) (b : ElectricBook) (t : Tally) (p : Posting) (k : Kept 
   month-keeps : not (inLimits b) ≡ false → forbidden monthEnd (settles (b .month)) (b .settled) ≡ false → Keeps monthEnd
   unfolding nextAt answerAt countAt monthEnded interestAnswer interestCounted
   month-keeps limits allowed =
-      let turn = subst (λ (settled : Bool). T (turns (b .month) settled)) (sym (month-settled _ _ (b .month) (dates limits) allowed)) (all-turn (b .month) (month-to _ _ (b .month) (dates limits))) in
+      let turn = month-turns (b .month) (b .settled) (dates limits) allowed in
       record {
         division = k .division;
         period = k .period;
@@ -167,7 +167,7 @@ fresh-kept division =
       period = refl;
       secondary = level;
       primary = level;
-      shares = fresh-shared (ratesOf division);
+      shares = sharing.none-shared 50000 (ratesOf division .percentage);
     }
 
 opened-kept : (division : ℕ) → openedOf division .answer ≡ Done → Kept (ratesOf division) (openedOf division .book) freshTally
@@ -182,7 +182,7 @@ balances rates b t k =
     record {
       secondary = k .secondary .balances;
       primary = k .primary .balances;
-      shares = shared-near rates t (k .shares);
+      shares = sharing.shared-near 50000 (rates .percentage) (k .shares);
     }
 
 pub no-cent-lost : NoCentLost

@@ -1,12 +1,12 @@
 -- A level and its tally: each kind of posting changes both by the same cents, so it keeps what they share. Assumes nothing.
 use mathlib.Core.Path.{_≡_, refl, sym, ap, _∙_}
-use mathlib.Core.Bool.{Bool, true, false, cond, not, _||_, true≢false}
+use mathlib.Core.Bool.{Bool, true, false, not, _||_, true≢false}
 use Prim.Native.Nat.{ℕ}
 use lib.Dec.{T}
 use lib.IntN.{ℤ, pos, _+ℤ_, _-ℤ_}
-use Rattle.ints.specs.Flags.{T-true}
 use Rattle.ints.specs.Ring.{solve, eq-by, _:+_, _:-_, _:*_, _:=_, #}
-use Rattle.riders.specs.Runs.{noRun}
+use Rattle.riders.specs.Balances.{line-billed, amount-added, cents-moved}
+use Rattle.riders.specs.Waiting.{none-pending}
 use Rattle.electric_rules.proofs.Waiting.{enters}
 use Rattle.electric_rules.proofs.Held.{held-billed, held-adjusted, held-settled, held-accrued, bearing-held, handed-over}
 use Rattle.electric_rules.specs.declared.Level.{Level}
@@ -25,27 +25,17 @@ module _ {clear : Bool} (l : Level) (t : LevelTally) (k : LevelKept clear l t) w
   unfolding billedLevel lineCounted
   billed-keeps u =
       record {
-        balances =
-            ap (λ (held : ℤ). t .billed +ℤ levelLine u l +ℤ held) (held-billed l u)
-            ∙ solve 3 (λ b h x. b :+ x :+ (h :- x) := b :+ h) tt (t .billed) (heldBy l) (levelLine u l)
-            ∙ k .balances;
+        balances = line-billed (t .billed) (heldBy l) (k .balances) (levelLine u l) (held-billed l u);
         accrued = k .accrued;
         pending = k .pending;
       }
-
-  -- what is added to the cents held joins shares, interest or adjustments
-  added : (after : Level) (x : ℤ) → heldBy after ≡ heldBy l +ℤ x → t .billed +ℤ heldBy after ≡ t .shares +ℤ t .interest +ℤ t .adjustments +ℤ x
-  added after x e =
-      ap (λ (held : ℤ). t .billed +ℤ held) e
-      ∙ solve 3 (λ b h x. b :+ (h :+ x) := b :+ h :+ x) tt (t .billed) (heldBy l) x
-      ∙ ap (λ (z : ℤ). z +ℤ x) (k .balances)
 
   pub adjusted-keeps : (amount : ℤ) → LevelKept clear (adjustedLevel amount l) (adjustmentCounted amount t)
   unfolding adjustedLevel adjustmentCounted
   adjusted-keeps amount =
       record {
         balances =
-            added (adjustedLevel amount l) amount (held-adjusted l amount)
+            amount-added (t .billed) (heldBy l) (k .balances) amount (held-adjusted l amount)
             ∙ solve 4 (λ s i a x. s :+ i :+ a :+ x := s :+ i :+ (a :+ x)) tt (t .shares) (t .interest) (t .adjustments) amount;
         accrued = k .accrued;
         pending = k .pending;
@@ -57,7 +47,7 @@ module _ {clear : Bool} (l : Level) (t : LevelTally) (k : LevelKept clear l t) w
   settled-keeps share counted estimate same c =
       record {
         balances =
-            added (settledLevel share estimate l) counted (held-settled l share estimate (k .pending c) ∙ ap (λ (x : ℤ). heldBy l +ℤ x) same)
+            amount-added (t .billed) (heldBy l) (k .balances) counted (held-settled l share estimate (k .pending c) ∙ ap (λ (x : ℤ). heldBy l +ℤ x) same)
             ∙ solve 4 (λ s i a x. s :+ i :+ a :+ x := s :+ x :+ i :+ a) tt (t .shares) (t .interest) (t .adjustments) counted;
         accrued = refl;
         pending = λ c. absurd (true≢false (sym c));
@@ -81,7 +71,7 @@ module _ {clear : Bool} (l : Level) (t : LevelTally) (k : LevelKept clear l t) w
       let x = interestOn rate (balanceOf t) in
       record {
         balances =
-            added (accruedLevel rate l) x (held-accrued l rate ∙ ap (λ (x : ℤ). heldBy l +ℤ x) same)
+            amount-added (t .billed) (heldBy l) (k .balances) x (held-accrued l rate ∙ ap (λ (x : ℤ). heldBy l +ℤ x) same)
             ∙ solve 4 (λ s i a x. s :+ i :+ a :+ x := s :+ (i :+ x) :+ a) tt (t .shares) (t .interest) (t .adjustments) x;
         accrued = λ i. k .accrued i +ℤ same i;
         pending = k .pending;
@@ -91,15 +81,10 @@ module _ {clear : Bool} (l : Level) (t : LevelTally) (k : LevelKept clear l t) w
   handed-keeps after n h =
       let handed = handed-over l n in
       record {
-        balances = ap (λ (held : ℤ). t .billed +ℤ held) (handed .held) ∙ k .balances;
+        balances = cents-moved (t .billed) (heldBy l) (k .balances) (handed .held);
         accrued = (λ i. handed .interest i .0) ∙ k .accrued;
-        pending = λ c. (λ i. handed .pending i .due .0) ∙ go after (enters n) h c;
+        pending = λ c. (λ i. handed .pending i .due .0) ∙ none-pending after (enters n) clear (l .pending) h (k .pending) c;
       }
-    where
-      go : (after entered : Bool) → T (not after || (entered || clear)) → after ≡ true → cond entered noRun (l .pending) .due .0 ≡ pos 0
-      go true true h c = refl
-      go true false h c = k .pending (T-true clear h)
-      go false entered h c = absurd (true≢false (sym c))
 
 -- a month's end: interest, then the run that enters
 pub ended-keeps :

@@ -1,7 +1,9 @@
 -- What the riders of both books share: the months of a year, runs, a bill's line with its parts, and histories; for the proofs of both
--- claims, when nothing can be pending.
+-- claims, when nothing can be pending, what shares are to variances, and how cents billed and held stay in balance.
 pub mod Months
 pub mod Runs
 pub mod Lines
 pub mod Histories
 pub mod Waiting
+pub mod Sharing
+pub mod Balances

@@ -31,6 +31,13 @@ abbrev pub sumOf : ℕ → (ℕ → ℤ) → ℤ
 sumOf zero f = pos 0
 sumOf (suc n) f = sumOf n f +ℤ f n
 
+-- the first apart from the others
+pub sum-first : (f : ℕ → ℤ) (n : ℕ) → sumOf (suc n) f ≡ f 0 +ℤ sumOf n (λ (i : ℕ). f (suc i))
+sum-first f zero = solve 1 (λ x. # 0 :+ x := x :+ # 0) tt (f 0)
+sum-first f (suc n) =
+    ap (λ (z : ℤ). z +ℤ f (suc n)) (sum-first f n)
+    ∙ solve 3 (λ first others last. first :+ others :+ last := first :+ (others :+ last)) tt (f 0) (sumOf n (λ (i : ℕ). f (suc i))) (f (suc n))
+
 -- differences from one to the next add up to that of the last from the first
 telescopes : (f : ℕ → ℤ) (n : ℕ) → sumOf n (λ (i : ℕ). f (suc i) -ℤ f i) ≡ f n -ℤ f 0
 telescopes f zero = solve 1 (λ x. # 0 := x :- x) tt (f 0)
