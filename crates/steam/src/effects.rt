@@ -88,16 +88,11 @@ fn post_settlement(book: SteamBook, posting: Posting) -> Posted
     let share = crate::settlement::share_of(book.period, shareable);
     let determinants = steam_refusals::determinants::determinants_of(book, posting);
     let factor = crate::filing::factor_for(share, determinants);
-    let filed = Run { factor, due: share };
+    let period = crate::settlement::period_after(book.period, shareable, share);
     let quarters = crate::settlement::shifted(past, book.period.sales);
-    let mut next = book;
-    next.settled = true;
-    next.period = crate::settlement::period_after(book.period, shareable, share);
-    next.quarters = quarters;
-    next.pending = filed;
     Posted {
         answer: Answer::Filed(factor),
-        book: next,
+        book: crate::settlement::settled_with(book, period, quarters, Run { factor, due: share }),
     }
 }
 

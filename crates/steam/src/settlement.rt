@@ -1,13 +1,16 @@
 // What a settlement works out from the quarter: the customers' share and what rounding leaves; and the past quarters after it.
 use amounts::Cents;
+use riders::Run;
 use steam_rules::Mmbtu;
 use steam_rules::Period;
 use steam_rules::Remainder;
+use steam_rules::SteamBook;
 ghost use mathlib.Core.Path.{_≡_};
 ghost use lib.IntN.{pos};
 ghost use Rattle.amounts.specs.Amounts.{cents};
 ghost use Rattle.steam_rules.specs.Book.{remainder, periodOf};
 ghost use Rattle.steam_rules.specs.Settlement.{shareableOf, shareOf, remainderAfter, shifted};
+ghost use Rattle.steam_rules.specs.Next.{settledWith};
 ghost use Rattle.steam_rules.specs.Ranges.{PeriodWithin};
 
 // The customers' percentage of a variance.
@@ -53,4 +56,21 @@ pub(crate) fn shifted(quarters: [Mmbtu; 4], newest: Mmbtu) -> [Mmbtu; 4]
     ensures { λ r. ⌜ r ≡ shifted quarters newest ⌝ }
 {
     [quarters[1], quarters[2], quarters[3], newest]
+}
+
+// The book with its quarter settled and the filed run pending.
+pub(crate) fn settled_with(
+    book: SteamBook,
+    period: Period,
+    quarters: [Mmbtu; 4],
+    filed: Run,
+) -> SteamBook
+    ensures { λ r. ⌜ r ≡ settledWith book period quarters filed ⌝ }
+{
+    let mut next = book;
+    next.settled = true;
+    next.period = period;
+    next.quarters = quarters;
+    next.pending = filed;
+    next
 }

@@ -31,20 +31,23 @@ factor-for-requires c κs = let s = c .before .before .before .before .args in
     let determinants : Within 500000000 (c .determinants-of .result .0) = between-same (λ i. c .determinants-of .ensures i .0) (determinants-within (s .book .period) (s .book .quarters) (w .0 .period) (w .0 .quarters) (s .posting .first) (w .1 .0)) in
     (between-same (λ i. c .before .share-of .ensures i .0) (share-within (s .book .period) (w .0 .period)), omega signed)
 
-shifted-requires : tie.Need-shifted-requires
-shifted-requires c κs = search needs
-
 period-after-requires : tie.Need-period-after-requires
 period-after-requires c κs = search needs
 
+shifted-requires : tie.Need-shifted-requires
+shifted-requires c κs = search needs
+
+settled-with-requires : tie.Need-settled-with-requires
+settled-with-requires c κs = search needs
+
 returns : tie.Need-returns
 unfolding filedFactor
-returns c = let b = c .before .before .before .before .before .before .before .args .book in
-    let p = c .before .before .before .before .before .before .before .args .posting in
-    let share = c .before .before .before .before .share-of .ensures in
-    let factor = c .before .before .factor-for .ensures ∙ (λ i. points (narrowed (factorFor (share i .0) (c .before .before .before .determinants-of .ensures i .0)))) in
-    (λ i. storedOr12 b (posted (Filed (factor i)) (settledWith b (c .period-after .ensures i) (c .before .shifted .ensures i) (record { factor = factor i; due = share i }))))
-    ∙ settled-alike b p
+returns c = let b = c .before .before .before .before .before .before .before .before .args .book in
+    let p = c .before .before .before .before .before .before .before .before .args .posting in
+    let share = c .before .before .before .before .before .share-of .ensures in
+    let factor = c .before .before .before .factor-for .ensures ∙ (λ i. points (narrowed (factorFor (share i .0) (c .before .before .before .before .determinants-of .ensures i .0)))) in
+    let next = c .settled-with .ensures ∙ (λ i. settledWith b (c .before .before .period-after .ensures i) (c .before .shifted .ensures i) (record { factor = factor i; due = share i })) in
+    (λ i. storedOr12 b (posted (Filed (factor i)) (next i))) ∙ settled-alike b p
 
 pub post-settlement-spec : {M : Type 1} → statement M
 post-settlement-spec =
@@ -54,6 +57,7 @@ post-settlement-spec =
     share-of-requires
     determinants-of-requires
     factor-for-requires
-    shifted-requires
     period-after-requires
+    shifted-requires
+    settled-with-requires
     returns)
