@@ -1,6 +1,6 @@
 -- What the rows before the next book have shown where none of them holds: the ranges of the book and of the posting's numbers, and that the
 -- next book decides. Assumes nothing.
-use mathlib.Core.Path.{_≡_, refl, sym, ap, _∙_, subst}
+use mathlib.Core.Path.{_≡_, refl, sym, ap, _∙_}
 use mathlib.Core.Bool.{false, true≢false}
 use Prim.Native.Nat.{ℕ, _<_}
 use native.Mathlib.Omega.{arith}

@@ -1,15 +1,15 @@
 -- A settlement's filings make a book that is stored or refused as the rules' own is: they are the rules' filings where both factors are in
 -- limits, and where one is not, neither book is. Assumes nothing.
-use mathlib.Core.Path.{_≡_, refl, sym, ap, _∙_}
+use mathlib.Core.Path.{_≡_, refl, ap, _∙_}
 use mathlib.Core.Bool.{Bool, true, false, not, _&&_}
 use native.Mathlib.Omega.{arith}
-use Rattle.refusals.specs.Laws.{row-holds}
 use lib.IntN.{ℤ}
+use Rattle.refusals.specs.Laws.{row-holds}
 use Rattle.amounts.specs.Amounts.{points, pointsInLimits}
 use Rattle.postings.specs.Kinds.{settle}
 use Rattle.postings.specs.declared.Posting.{Posting}
 use Rattle.postings.specs.declared.Answer.the-variants.{FiledLevels}
-use Rattle.riders.specs.Runs.{narrowed-alike, run, factorFor, runInLimits, narrowed, narrowed-in, narrowed-out}
+use Rattle.riders.specs.Runs.{narrowed-alike, run, factorFor, runInLimits, narrowed}
 use Rattle.electric_rules.specs.declared.Level.{Level}
 use Rattle.electric_rules.specs.declared.ElectricBook.{ElectricBook}
 use Rattle.electric_rules.specs.declared.Posted.{Posted}

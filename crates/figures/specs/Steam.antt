@@ -39,7 +39,7 @@ settlement = record { kind = 4; first = pos 0; second = pos 0; third = pos 0 }
 
 -- D with H 1,000 as each past quarter, of B and b 7
 abbrev determinants : ℤ → ℤ
-determinants B = determinantsOf (periodOf (pos 0) B (pos 0)) (four (mmbtu (pos 1000))) (pos 7)
+determinants B = determinantsOf B (four (mmbtu (pos 1000))) (pos 7)
 
 -- what an adjustment by n with g 1,000,000 is answered
 abbrev adjusted : ℤ → ℤ

@@ -86,7 +86,11 @@ fn post_settlement(book: SteamBook, posting: Posting) -> Posted
     let past = book.quarters;
     let shareable = crate::settlement::shareable_of(book.period);
     let share = crate::settlement::share_of(book.period, shareable);
-    let determinants = steam_refusals::determinants::determinants_of(book, posting);
+    let determinants = steam_refusals::determinants::determinants_of(
+        book.period.sales,
+        past,
+        Mmbtu(posting.first),
+    );
     let factor = crate::filing::factor_for(share, determinants);
     let period = crate::settlement::period_after(book.period, shareable, share);
     let quarters = crate::settlement::shifted(past, book.period.sales);

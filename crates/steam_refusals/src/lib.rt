@@ -2,6 +2,7 @@
 // limits and the billing determinants.
 use postings::Book;
 use postings::Posting;
+use steam_rules::Mmbtu;
 use steam_rules::SteamBook;
 ghost use mathlib.Core.Path.{_≡_};
 ghost use mathlib.Core.Bool.{true};
@@ -31,7 +32,10 @@ fn sold_nothing(book: SteamBook, posting: Posting) -> bool
     ensures { λ r. ⌜ r ≡ nothingSold (kindOf (posting .kind)) book posting ⌝ }
 {
     if posting.kind == 4 {
-        return (book.period.sales.0 == 0) | (determinants::determinants_of(book, posting).0 < 1);
+        let quarters = book.quarters;
+        let adjustment = Mmbtu(posting.first);
+        let determinants = determinants::determinants_of(book.period.sales, quarters, adjustment);
+        return (book.period.sales.0 == 0) | (determinants.0 < 1);
     }
     false
 }

@@ -143,7 +143,7 @@ billPosted b p =
 -- ---- settle with adjustment b: Q = R and q = round(100R / D); the oldest quarter leaves, B enters; K and B become 0
 
 unfoldable pub filedFactor : SteamBook → Posting → ℤ
-filedFactor b p = factorFor (shareOf (b .period)) (determinantsOf (b .period) (b .quarters) (p .first))
+filedFactor b p = factorFor (shareOf (b .period)) (determinantsOf (b .period .sales .0) (b .quarters) (p .first))
 
 unfoldable pub settlePosted : SteamBook → Posting → SteamBook
 settlePosted b p =

@@ -4,17 +4,16 @@ use mathlib.Core.Bool.{Bool, true, false, cond}
 use mathlib.Core.List.{List, [], _∷_}
 use Prim.Native.Nat.{ℕ}
 use native.Mathlib.Omega.{arith}
-use lib.IntN.{ℤ, pos, negℤ, _+ℤ_}
+use lib.IntN.{ℤ, pos, _+ℤ_}
 use lib.ListN.{length, getD}
 use Rattle.ints.specs.Ring.{solve, _:+_, _:=_, #}
 use Rattle.ints.specs.Range.{Between, Within, between-same}
 use Rattle.ints.specs.Bound.{b-between, b-pos, b-add, within-by}
 use Rattle.steam_rules.specs.declared.Mmbtu.{Mmbtu}
-use Rattle.steam_rules.specs.declared.Period.{Period}
 use Rattle.steam_rules.specs.Book.{mmbtu}
 use Rattle.steam_rules.specs.Settlement.{oldest, threeNewest, shifted, soldIn, offByFive, determinantsOf}
 use Rattle.steam_rules.specs.Fours.{Four, as-four, at}
-use Rattle.steam_rules.specs.Ranges.{MmbtuWithin, PeriodWithin}
+use Rattle.steam_rules.specs.Ranges.{MmbtuWithin}
 
 abbrev pub quarterAt : List Mmbtu → ℕ → Mmbtu
 quarterAt quarters i = getD quarters i (mmbtu (pos 0))
@@ -29,19 +28,19 @@ module _ (quarters : List Mmbtu) (count : length quarters ≡ 4) where
   unfolding shifted
   shifted-four newest = ap (λ (qs : List Mmbtu). shifted qs newest) (sym (as-four (mmbtu (pos 0)) quarters count))
 
-module _ (p : Period) (quarters : List Mmbtu) (ps : PeriodWithin p) (qs : Four MmbtuWithin quarters) where
+module _ (B : ℤ) (quarters : List Mmbtu) (sold : Between (pos 0) (pos 100000000) B) (qs : Four MmbtuWithin quarters) where
   -- the sales of a year
-  pub year-within : Within 400000000 (p .sales .0 +ℤ soldIn (threeNewest quarters))
+  pub year-within : Within 400000000 (B +ℤ soldIn (threeNewest quarters))
   year-within =
-      let a : Between (pos 0) (pos 100000000) (quarterAt quarters 1 .0) = at (mmbtu (pos 0)) qs 1 (omega arith) in
-      let b : Between (pos 0) (pos 100000000) (quarterAt quarters 2 .0) = at (mmbtu (pos 0)) qs 2 (omega arith) in
-      let c : Between (pos 0) (pos 100000000) (quarterAt quarters 3 .0) = at (mmbtu (pos 0)) qs 3 (omega arith) in
-      between-same (ap (λ (z : ℤ). p .sales .0 +ℤ z) (sym (sold-three quarters (qs .count)))) (within-by (b-add (b-between (ps .sales)) (b-add (b-between a) (b-add (b-between b) (b-between c)))) tt)
+      let x : Between (pos 0) (pos 100000000) (quarterAt quarters 1 .0) = at (mmbtu (pos 0)) qs 1 (omega arith) in
+      let y : Between (pos 0) (pos 100000000) (quarterAt quarters 2 .0) = at (mmbtu (pos 0)) qs 2 (omega arith) in
+      let z : Between (pos 0) (pos 100000000) (quarterAt quarters 3 .0) = at (mmbtu (pos 0)) qs 3 (omega arith) in
+      between-same (ap (λ (z : ℤ). B +ℤ z) (sym (sold-three quarters (qs .count)))) (within-by (b-add (b-between sold) (b-add (b-between x) (b-add (b-between y) (b-between z)))) tt)
 
-  pub determinants-within : (b : ℤ) → Between (negℤ (pos 100000000)) (pos 100000000) b → Within 500000000 (determinantsOf p quarters b)
+  pub determinants-within : (b : ℤ) → Within 100000000 b → Within 500000000 (determinantsOf B quarters b)
   unfolding determinantsOf
-  determinants-within b h = go (offByFive (p .sales .0) (oldest quarters))
+  determinants-within b h = go (offByFive B (oldest quarters))
     where
-      go : (t : Bool) → Within 500000000 (p .sales .0 +ℤ soldIn (threeNewest quarters) +ℤ cond t b (pos 0))
+      go : (t : Bool) → Within 500000000 (B +ℤ soldIn (threeNewest quarters) +ℤ cond t b (pos 0))
       go true = within-by (b-add (b-between year-within) (b-between h)) tt
       go false = within-by (b-add (b-between year-within) (b-pos 0)) tt

@@ -25,7 +25,7 @@ stillRuns kind b = isKind reconcile kind && not (eqb (b .reconciliation .months)
 
 -- 10: settle with B = 0, or D below 1
 unfoldable pub nothingSold : Kind → SteamBook → Posting → Bool
-nothingSold kind b p = isKind settle kind && (eqZ (b .period .sales .0) (pos 0) || ltZ (determinantsOf (b .period) (b .quarters) (p .first)) (pos 1))
+nothingSold kind b p = isKind settle kind && (eqZ (b .period .sales .0) (pos 0) || ltZ (determinantsOf (b .period .sales .0) (b .quarters) (p .first)) (pos 1))
 
 -- 11: 10 × |n| not above g
 unfoldable pub tooSmall : Kind → Posting → Bool

@@ -53,5 +53,5 @@ unfoldable pub offByFive : ℤ → ℤ → Bool
 offByFive B H = ltZ (pos 105 *ℤ H) (pos 100 *ℤ B) || ltZ (pos 100 *ℤ B) (pos 95 *ℤ H)
 
 -- D = B + the three newest past quarters, plus b only if B is that far off
-unfoldable pub determinantsOf : Period → List Mmbtu → ℤ → ℤ
-determinantsOf p quarters b = p .sales .0 +ℤ soldIn (threeNewest quarters) +ℤ cond (offByFive (p .sales .0) (oldest quarters)) b (pos 0)
+unfoldable pub determinantsOf : ℤ → List Mmbtu → ℤ → ℤ
+determinantsOf B quarters b = B +ℤ soldIn (threeNewest quarters) +ℤ cond (offByFive B (oldest quarters)) b (pos 0)

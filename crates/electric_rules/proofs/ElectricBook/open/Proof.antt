@@ -1,11 +1,9 @@
 -- `ElectricBook::open` gives what the rules open: the one row of its table holds where the test is taken. Assumes nothing.
 use mathlib.Core.Path.{sym, _∙_}
-use mathlib.Core.List.{[], _∷_}
 use Prim.Native.Nat.{_<_, _≤_}
 use native.Mathlib.Omega.{arith}
 use borrow.Author.Tests.{lt-ltb, le-ltb}
 use borrow.Author.Needs.{needs}
-use Rattle.refusals.specs.Rows.{row}
 use Rattle.refusals.specs.Laws.{row-passed, row-holds}
 use Rattle.postings.specs.declared.Answer.the-variants.{Done}
 use Rattle.electric_rules.proofs.ElectricBook.open.Statement.{statement}

@@ -1,13 +1,16 @@
 -- `effects::post_settlement` is stored or refused as the effect of a settlement: the share is pending with the factor over the determinants.
 -- Assumes nothing.
-use mathlib.Core.Path.{_∙_}
+use mathlib.Core.Path.{_≡_, _∙_}
+use mir.Facts.{toZ-ofZ}
 use borrow.Author.Needs.{needs}
+use Rattle.ints.specs.Bound.{b-between, fits64}
 use Rattle.ints.specs.Order.{signed}
 use Rattle.ints.specs.Range.{Within, between-same}
 use Rattle.amounts.specs.Amounts.{points}
 use Rattle.postings.specs.declared.Answer.the-variants.{Filed}
 use Rattle.riders.specs.Runs.{factorFor, narrowed}
-use Rattle.steam_rules.specs.Book.{posted}
+use Rattle.steam_rules.specs.Book.{mmbtu, posted}
+use Rattle.steam_rules.specs.Settlement.{determinantsOf}
 use Rattle.steam_rules.specs.Next.{settledWith, filedFactor}
 use Rattle.steam_rules.specs.Quarters.{determinants-within}
 use Rattle.steam_rules.specs.Sizes.{share-within}
@@ -23,13 +26,20 @@ share-of-requires : tie.Need-share-of-requires
 share-of-requires c κs = search needs
 
 determinants-of-requires : tie.Need-determinants-of-requires
-determinants-of-requires c κs = search needs
+determinants-of-requires c κs = let w = c .before .before .before .before .pre in
+    (w .0 .period .sales, w .0 .quarters, between-same (toZ-ofZ (fits64 (b-between (w .1 .0)) tt)) (w .1 .0))
+
+-- the determinants, of the number that the machine has read
+determined : (c : tie.After-determinants-of) → let s = c .before .before .before .before .before .args in c .determinants-of .result ≡ mmbtu (determinantsOf (s .book .period .sales .0) (s .book .quarters) (s .posting .first))
+determined c =
+    let s = c .before .before .before .before .before .args in
+    c .determinants-of .ensures ∙ (λ i. mmbtu (determinantsOf (s .book .period .sales .0) (s .book .quarters) (toZ-ofZ (fits64 (b-between (c .before .before .before .before .before .pre .1 .0)) tt) i)))
 
 factor-for-requires : tie.Need-factor-for-requires
-factor-for-requires c κs = let s = c .before .before .before .before .args in
-    let w = c .before .before .before .before .pre in
-    let determinants : Within 500000000 (c .determinants-of .result .0) = between-same (λ i. c .determinants-of .ensures i .0) (determinants-within (s .book .period) (s .book .quarters) (w .0 .period) (w .0 .quarters) (s .posting .first) (w .1 .0)) in
-    (between-same (λ i. c .before .share-of .ensures i .0) (share-within (s .book .period) (w .0 .period)), omega signed)
+factor-for-requires c κs = let s = c .before .before .before .before .before .args in
+    let w = c .before .before .before .before .before .pre in
+    let determinants : Within 500000000 (c .determinants-of .result .0) = between-same (λ i. determined c i .0) (determinants-within (s .book .period .sales .0) (s .book .quarters) (w .0 .period .sales) (w .0 .quarters) (s .posting .first) (w .1 .0)) in
+    (between-same (λ i. c .before .before .share-of .ensures i .0) (share-within (s .book .period) (w .0 .period)), omega signed)
 
 period-after-requires : tie.Need-period-after-requires
 period-after-requires c κs = search needs
@@ -42,10 +52,10 @@ settled-with-requires c κs = search needs
 
 returns : tie.Need-returns
 unfolding filedFactor
-returns c = let b = c .before .before .before .before .before .before .before .before .args .book in
-    let p = c .before .before .before .before .before .before .before .before .args .posting in
-    let share = c .before .before .before .before .before .share-of .ensures in
-    let factor = c .before .before .before .factor-for .ensures ∙ (λ i. points (narrowed (factorFor (share i .0) (c .before .before .before .before .determinants-of .ensures i .0)))) in
+returns c = let b = c .before .before .before .before .before .before .before .before .before .args .book in
+    let p = c .before .before .before .before .before .before .before .before .before .args .posting in
+    let share = c .before .before .before .before .before .before .share-of .ensures in
+    let factor = c .before .before .before .factor-for .ensures ∙ (λ i. points (narrowed (factorFor (share i .0) (determined (c .before .before .before .before) i .0)))) in
     let next = c .settled-with .ensures ∙ (λ i. settledWith b (c .before .before .period-after .ensures i) (c .before .shifted .ensures i) (record { factor = factor i; due = share i })) in
     (λ i. storedOr12 b (posted (Filed (factor i)) (next i))) ∙ settled-alike b p
 

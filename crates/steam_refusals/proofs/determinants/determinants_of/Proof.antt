@@ -24,33 +24,33 @@ array-copy-out-off-by-five : tie.Need-array-copy-out-off-by-five
 array-copy-out-off-by-five c = search needs
 
 off-by-five-requires : tie.Need-off-by-five-requires
-off-by-five-requires c κs = let w = c .before .before .before .pre .0 in (w .period .sales, at (mmbtu (pos 0)) (w .quarters) 0 (omega arith))
+off-by-five-requires c κs = let w = c .before .before .pre in (w .0, at (mmbtu (pos 0)) (w .1) 0 (omega arith))
 
-add-t10 : tie.Need-add-t10
-add-t10 c = let s = c .before .before .before .before .before .before .before .before .before .args in
-    let w = c .before .before .before .before .before .before .before .before .before .pre in
-    let year : Within 400000000 (c .before .before .before .before .before .before .before .year-of .result .0) = between-same (λ i. c .before .before .before .before .before .before .before .year-of .ensures i .0) (year-within (s .book .period) (s .book .quarters) (w .0 .period) (w .0 .quarters)) in
-    let b = w .1 .0 in
+add-t11 : tie.Need-add-t11
+add-t11 c = let s = c .before .before .before .before .before .before .before .before .args in
+    let w = c .before .before .before .before .before .before .before .before .pre in
+    let year : Within 400000000 (c .before .before .before .before .before .before .before .year-of .result .0) = between-same (λ i. c .before .before .before .before .before .before .before .year-of .ensures i .0) (year-within (s .sales .0) (s .t2) (w .0) (w .1)) in
+    let b = w .2 in
     fits64 (search (bounds, year, b) depth 30) tt
 
 returns : tie.Need-returns
 unfolding determinantsOf
-returns c = let s = c .before .before .before .before .before .before .before .before .before .args in
-    let w = c .before .before .before .before .before .before .before .before .before .pre in
-    let year : Within 400000000 (c .before .before .before .before .before .before .before .year-of .result .0) = between-same (λ i. c .before .before .before .before .before .before .before .year-of .ensures i .0) (year-within (s .book .period) (s .book .quarters) (w .0 .period) (w .0 .quarters)) in
-    let b = w .1 .0 in
-    let e : toZ w64 (ofZ w64 (toZ w64 (ofZ w64 (c .before .before .before .before .before .before .before .year-of .result .0)) +ℤ toZ w64 (ofZ w64 (s .posting .first)))) ≡ c .before .before .before .before .before .before .before .year-of .result .0 +ℤ s .posting .first = exact (search (exacts, year, b) depth 30) tt in
+returns c = let s = c .before .before .before .before .before .before .before .before .args in
+    let w = c .before .before .before .before .before .before .before .before .pre in
+    let year : Within 400000000 (c .before .before .before .before .before .before .before .year-of .result .0) = between-same (λ i. c .before .before .before .before .before .before .before .year-of .ensures i .0) (year-within (s .sales .0) (s .t2) (w .0) (w .1)) in
+    let b = w .2 in
+    let e : toZ w64 (ofZ w64 (toZ w64 (ofZ w64 (c .before .before .before .before .before .before .before .year-of .result .0)) +ℤ toZ w64 (ofZ w64 (s .adjustment .0)))) ≡ c .before .before .before .before .before .before .before .year-of .result .0 +ℤ s .adjustment .0 = exact (search (exacts, year, b) depth 30) tt in
     let off = sym (c .before .before .before .before .before .off-by-five .ensures) ∙ c .before .before .before .before .if1 .taken in
-    same-mmbtu (e ∙ (λ i. c .before .before .before .before .before .before .before .year-of .ensures i .0 +ℤ cond (sym off i) (s .posting .first) (pos 0)))
+    same-mmbtu (e ∙ (λ i. c .before .before .before .before .before .before .before .year-of .ensures i .0 +ℤ cond (sym off i) (s .adjustment .0) (pos 0)))
 
 returns-2 : tie.Need-returns-2
 unfolding determinantsOf
-returns-2 c = let s = c .before .before .before .before .before .args in
+returns-2 c = let s = c .before .before .before .before .args in
     let off = sym (c .before .off-by-five .ensures) ∙ c .if1 .left in
     c .before .before .before .year-of .ensures
     ∙ same-mmbtu
-    (solve 1 (λ x. x := x :+ # 0) tt (s .book .period .sales .0 +ℤ soldIn (threeNewest (s .book .quarters)))
-    ∙ (λ i. s .book .period .sales .0 +ℤ soldIn (threeNewest (s .book .quarters)) +ℤ cond (sym off i) (s .posting .first) (pos 0)))
+    (solve 1 (λ x. x := x :+ # 0) tt (s .sales .0 +ℤ soldIn (threeNewest (s .t2)))
+    ∙ (λ i. s .sales .0 +ℤ soldIn (threeNewest (s .t2)) +ℤ cond (sym off i) (s .adjustment .0) (pos 0)))
 
 pub determinants-of-spec : {M : Type 1} → statement M
 determinants-of-spec =
@@ -59,6 +59,6 @@ determinants-of-spec =
     year-of-requires
     array-copy-out-off-by-five
     off-by-five-requires
-    add-t10
+    add-t11
     returns
     returns-2)

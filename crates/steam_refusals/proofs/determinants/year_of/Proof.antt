@@ -36,18 +36,18 @@ add-t16 : tie.Need-add-t16
 add-t16 c = let q1 : Between (pos 0) (pos 100000000) (quarterAt (c .before .before .before .before .before .before .before .before .before .before .before .args .t2) 1 .0) = at (mmbtu (pos 0)) (c .before .before .before .before .before .before .before .before .before .before .before .pre .1) 1 (omega arith) in
     let q2 : Between (pos 0) (pos 100000000) (quarterAt (c .before .before .before .before .before .before .before .before .before .before .before .args .t2) 2 .0) = at (mmbtu (pos 0)) (c .before .before .before .before .before .before .before .before .before .before .before .pre .1) 2 (omega arith) in
     let q3 : Between (pos 0) (pos 100000000) (quarterAt (c .before .before .before .before .before .before .before .before .before .before .before .args .t2) 3 .0) = at (mmbtu (pos 0)) (c .before .before .before .before .before .before .before .before .before .before .before .pre .1) 3 (omega arith) in
-    let w = c .before .before .before .before .before .before .before .before .before .before .before .pre .0 .sales in
+    let w = c .before .before .before .before .before .before .before .before .before .before .before .pre .0 in
     fits64 (search (bounds, q1, q2, q3, w) depth 30) tt
 
 returns : tie.Need-returns
 returns c = let q1 : Between (pos 0) (pos 100000000) (quarterAt (c .before .before .before .before .before .before .before .before .before .before .before .args .t2) 1 .0) = at (mmbtu (pos 0)) (c .before .before .before .before .before .before .before .before .before .before .before .pre .1) 1 (omega arith) in
     let q2 : Between (pos 0) (pos 100000000) (quarterAt (c .before .before .before .before .before .before .before .before .before .before .before .args .t2) 2 .0) = at (mmbtu (pos 0)) (c .before .before .before .before .before .before .before .before .before .before .before .pre .1) 2 (omega arith) in
     let q3 : Between (pos 0) (pos 100000000) (quarterAt (c .before .before .before .before .before .before .before .before .before .before .before .args .t2) 3 .0) = at (mmbtu (pos 0)) (c .before .before .before .before .before .before .before .before .before .before .before .pre .1) 3 (omega arith) in
-    let w = c .before .before .before .before .before .before .before .before .before .before .before .pre .0 .sales in
+    let w = c .before .before .before .before .before .before .before .before .before .before .before .pre .0 in
     let s = c .before .before .before .before .before .before .before .before .before .before .before .args in
     same-mmbtu
     (exact (search (exacts, q1, q2, q3, w) depth 30) tt
-    ∙ ap (λ (z : ℤ). s .period .sales .0 +ℤ z) (sold-three (s .t2) (c .before .before .before .before .before .before .before .before .before .before .before .pre .1 .count)))
+    ∙ ap (λ (z : ℤ). s .sales .0 +ℤ z) (sold-three (s .t2) (c .before .before .before .before .before .before .before .before .before .before .before .pre .1 .count)))
 
 pub year-of-spec : {M : Type 1} → statement M
 year-of-spec =
