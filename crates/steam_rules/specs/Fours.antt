@@ -58,3 +58,10 @@ module _ {A : Type 0} where
   four-tested test P tells xs e =
       let h = both (eqb (length xs) 4) (all test xs) e in
       record { count = eqb-true (length xs) 4 (h .0); each = each-tested test P tells xs (h .1) }
+
+  each-yes : (test : A → Bool) (P : A → Type 0) → ((x : A) → P x → test x ≡ true) → (xs : List A) → Each P xs → all test xs ≡ true
+  each-yes test P tests [] es = refl
+  each-yes test P tests (x ∷ xs) es = simp (tests x (es .0), each-yes test P tests xs (es .1))
+
+  pub four-yes : (test : A → Bool) (P : A → Type 0) → ((x : A) → P x → test x ≡ true) → (xs : List A) → Four P xs → allFour test xs ≡ true
+  four-yes test P tests xs fs = simp (fs .count, each-yes test P tests xs (fs .each))

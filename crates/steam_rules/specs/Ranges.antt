@@ -1,10 +1,11 @@
 -- What the limits tell of a book: a range for every amount that it stores, in records nested like the book. Assumes nothing.
 use mathlib.Core.Path.{_≡_}
 use mathlib.Core.Bool.{true}
+use mathlib.Core.List.{List}
 use lib.Dec.{leb}
 use lib.IntN.{pos, negℤ}
 use Rattle.ints.specs.Flags.{both}
-use Rattle.ints.specs.Range.{Between, Within, inRange-true}
+use Rattle.ints.specs.Range.{Between, Within, inRange-true, inRange-yes}
 use Rattle.amounts.specs.Amounts.{centsInLimits, pointsInLimits, cents-within, points-within}
 use Rattle.amounts.specs.declared.Cents.{Cents}
 use Rattle.amounts.specs.declared.Points.{Points}
@@ -17,7 +18,7 @@ use Rattle.steam_rules.specs.declared.Reconciliation.{Reconciliation}
 use Rattle.steam_rules.specs.declared.SteamBook.{SteamBook}
 use Rattle.steam_rules.specs.Calendar.{settles}
 use Rattle.steam_rules.specs.Limits.{mmbtuInLimits, remainderInLimits, periodInLimits, quartersInLimits, factorsInLimits, duesInLimits, reconciliationInLimits, runsInLimits, inLimits}
-use Rattle.steam_rules.specs.Fours.{Four, four-tested}
+use Rattle.steam_rules.specs.Fours.{Four, four-tested, four-yes}
 
 abbrev pub MmbtuWithin : Mmbtu → Type 0
 MmbtuWithin sales = Between (pos 0) (pos 100000000) (sales .0)
@@ -50,6 +51,18 @@ pub mmbtu-within : (sales : Mmbtu) → mmbtuInLimits sales ≡ true → MmbtuWit
 unfolding mmbtuInLimits
 mmbtu-within sales e = inRange-true (pos 0) (pos 100000000) (sales .0) e
 
+pub mmbtu-yes : (sales : Mmbtu) → MmbtuWithin sales → mmbtuInLimits sales ≡ true
+unfolding mmbtuInLimits
+mmbtu-yes sales h = inRange-yes (pos 0) (pos 100000000) (sales .0) h
+
+pub quarters-yes : (quarters : List Mmbtu) → Four MmbtuWithin quarters → quartersInLimits quarters ≡ true
+unfolding quartersInLimits
+quarters-yes quarters qs = four-yes mmbtuInLimits MmbtuWithin mmbtu-yes quarters qs
+
+pub quarters-within : (quarters : List Mmbtu) → quartersInLimits quarters ≡ true → Four MmbtuWithin quarters
+unfolding quartersInLimits
+quarters-within quarters e = four-tested mmbtuInLimits MmbtuWithin mmbtu-within quarters e
+
 remainder-within : (rem : Remainder) → remainderInLimits rem ≡ true → Within 5000 (rem .0)
 unfolding remainderInLimits
 remainder-within rem e = inRange-true (negℤ (pos 5000)) (pos 5000) (rem .0) e
@@ -79,7 +92,7 @@ runs-within b e =
     }
 
 pub book-within : (b : SteamBook) → inLimits b ≡ true → BookWithin b
-unfolding inLimits quartersInLimits
+unfolding inLimits
 book-within b e =
     let m = both (monthInLimits (b .month) (settles (b .month)) (b .settled)) _ e in
     let p = both (periodInLimits (b .period)) _ (m .1) in
@@ -87,7 +100,7 @@ book-within b e =
     let c = both (centsInLimits (b .carried)) _ (q .1) in
     record {
       period = period-within (b .period) (p .0);
-      quarters = four-tested mmbtuInLimits MmbtuWithin mmbtu-within (b .quarters) (q .0);
+      quarters = quarters-within (b .quarters) (q .0);
       carried = cents-within (b .carried) (c .0);
       runs = runs-within b (c .1);
     }

@@ -9,26 +9,23 @@ use lib.Signed.{ltZ}
 use mir.Syntax.{w64}
 use mir.Val.{SFits, toZ, ofZ}
 use mir.Facts.{toZ-ofZ}
+use borrow.Author.Needs.{needs}
 use Rattle.ints.specs.Bound.{b-between, fits64}
-use Rattle.ints.specs.Range.{between-same}
 use Rattle.ints.specs.Machine.{eqZ-bits, zero64}
 use Rattle.postings.specs.Kinds.{settle, kindOf, other-kind}
 use Rattle.postings.specs.Ranged.{ranged-as}
 use Rattle.postings.specs.declared.Book.the-variants.{Steam}
-use Rattle.steam_rules.specs.Book.{mmbtu}
+use Rattle.steam_rules.specs.Book.{mmbtu, same-mmbtu}
 use Rattle.steam_rules.specs.Settlement.{determinantsOf}
 use Rattle.steam_rules.specs.Quarters.{determinants-within}
 use Rattle.steam_rules.specs.Ranges.{book-within}
 use Rattle.steam_rules.specs.Refusals.{nothingSold}
 use Rattle.steam_refusals.proofs.sold_nothing.Statement.{statement}
+use Rattle.steam_refusals.specs.Determinants.{determinantsOr0, determinantsOr0-is}
 use Rattle.steam_refusals.proofs.sold_nothing.Tie as tie
 
 determinants-of-requires : tie.Need-determinants-of-requires
-unfolding kindOf
-determinants-of-requires c κs = let s = c .before .before .before .before .args in
-    let w = book-within (s .book) (c .before .before .before .before .pre .0) in
-    let b = ranged-as Steam (s .posting) (c .before .before .if1 .taken) (c .before .before .before .before .pre .1) .0 in
-    (w .period .sales, w .quarters, between-same (toZ-ofZ (fits64 (b-between b) tt)) b)
+determinants-of-requires c κs = search needs
 
 returns : tie.Need-returns
 unfolding nothingSold kindOf
@@ -38,7 +35,7 @@ returns c = let b = c .before .before .before .before .before .before .before .b
     let adjustment = ranged-as Steam p (c .before .before .before .before .before .before .before .if1 .taken) (c .before .before .before .before .before .before .before .before .before .pre .1) .0 in
     let sales : SFits w64 (b .period .sales .0) = fits64 (b-between (w .period .sales)) tt in
     let within = determinants-within (b .period .sales .0) (b .quarters) (w .period .sales) (w .quarters) (p .first) adjustment in
-    let given = c .before .before .before .before .determinants-of .ensures ∙ (λ i. mmbtu (determinantsOf (b .period .sales .0) (b .quarters) (toZ-ofZ (fits64 (b-between adjustment) tt) i))) in
+    let given = c .before .before .before .before .determinants-of .ensures ∙ (λ i. mmbtu (determinantsOr0 (b .period .sales) (b .quarters) (toZ-ofZ (fits64 (b-between adjustment) tt) i))) ∙ same-mmbtu (determinantsOr0-is (b .period .sales) (b .quarters) (p .first) (w .period .sales) (w .quarters) adjustment) in
     let read : toZ w64 (ofZ w64 (c .before .before .before .before .determinants-of .result .0)) ≡ determinantsOf (b .period .sales .0) (b .quarters) (p .first) = (λ i. toZ w64 (ofZ w64 (given i .0))) ∙ toZ-ofZ (fits64 (b-between within) tt) in
     (λ i. eqZ-bits sales zero64 i || ltZ (read i) (pos 1)) ∙ ap (λ (k : ℕ). nothingSold (kindOf k) b p) (sym (c .before .before .before .before .before .before .before .if1 .taken))
 

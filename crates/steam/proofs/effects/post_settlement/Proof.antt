@@ -9,11 +9,12 @@ use Rattle.ints.specs.Range.{Within, between-same}
 use Rattle.amounts.specs.Amounts.{points}
 use Rattle.postings.specs.declared.Answer.the-variants.{Filed}
 use Rattle.riders.specs.Runs.{factorFor, narrowed}
-use Rattle.steam_rules.specs.Book.{mmbtu, posted}
+use Rattle.steam_rules.specs.Book.{mmbtu, posted, same-mmbtu}
 use Rattle.steam_rules.specs.Settlement.{determinantsOf}
 use Rattle.steam_rules.specs.Next.{settledWith, filedFactor}
 use Rattle.steam_rules.specs.Quarters.{determinants-within}
 use Rattle.steam_rules.specs.Sizes.{share-within}
+use Rattle.steam_refusals.specs.Determinants.{determinantsOr0, determinantsOr0-is}
 use Rattle.steam.proofs.Settling.{settled-alike}
 use Rattle.steam.proofs.effects.post_settlement.Statement.{statement}
 use Rattle.steam.specs.Stored.{storedOr12}
@@ -26,14 +27,17 @@ share-of-requires : tie.Need-share-of-requires
 share-of-requires c κs = search needs
 
 determinants-of-requires : tie.Need-determinants-of-requires
-determinants-of-requires c κs = let w = c .before .before .before .before .pre in
-    (w .0 .period .sales, w .0 .quarters, between-same (toZ-ofZ (fits64 (b-between (w .1 .0)) tt)) (w .1 .0))
+determinants-of-requires c κs = search needs
 
--- the determinants, of the number that the machine has read
+-- the determinants are the rules', since all amounts are within their limits
 determined : (c : tie.After-determinants-of) → let s = c .before .before .before .before .before .args in c .determinants-of .result ≡ mmbtu (determinantsOf (s .book .period .sales .0) (s .book .quarters) (s .posting .first))
 determined c =
-    let s = c .before .before .before .before .before .args in
-    c .determinants-of .ensures ∙ (λ i. mmbtu (determinantsOf (s .book .period .sales .0) (s .book .quarters) (toZ-ofZ (fits64 (b-between (c .before .before .before .before .before .pre .1 .0)) tt) i)))
+    let b = c .before .before .before .before .before .args .book in
+    let p = c .before .before .before .before .before .args .posting in
+    let w = c .before .before .before .before .before .pre in
+    c .determinants-of .ensures
+    ∙ (λ i. mmbtu (determinantsOr0 (b .period .sales) (b .quarters) (toZ-ofZ (fits64 (b-between (w .1 .0)) tt) i)))
+    ∙ same-mmbtu (determinantsOr0-is (b .period .sales) (b .quarters) (p .first) (w .0 .period .sales) (w .0 .quarters) (w .1 .0))
 
 factor-for-requires : tie.Need-factor-for-requires
 factor-for-requires c κs = let s = c .before .before .before .before .before .args in
