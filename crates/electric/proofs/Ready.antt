@@ -2,30 +2,29 @@
 -- next book decides. Assumes nothing.
 use mathlib.Core.Path.{_≡_, refl, sym, ap, _∙_}
 use mathlib.Core.Bool.{false, true≢false}
-use Prim.Native.Nat.{ℕ, _<_}
-use native.Mathlib.Omega.{arith}
+use Prim.Native.Nat.{ℕ}
 use borrow.Author.Tests.{not-false}
 use Rattle.refusals.specs.Rows.{refusalBy}
-use Rattle.refusals.specs.Laws.{NoneHolds, none-holds, gives-earlier, gives-later}
+use Rattle.refusals.specs.Laws.{NoneHolds, none-holds}
 use Rattle.postings.specs.Kinds.{kindOf, tableOf, isNone, unknownKind, by-kind}
 use Rattle.postings.specs.Ranged.{Ranged, none-out-of-range}
 use Rattle.postings.specs.declared.Book.the-variants.{Electric}
 use Rattle.postings.specs.declared.Posting.{Posting}
+use Rattle.electric_rules.specs.Limits.{inLimits}
 use Rattle.electric_rules.specs.declared.ElectricBook.{ElectricBook}
 use Rattle.electric_rules.specs.declared.Posted.{Posted}
 use Rattle.electric_rules.specs.Book.{posted, refused}
 use Rattle.electric_rules.specs.Next.{nextOf, answerOf}
 use Rattle.electric_rules.specs.Ranges.{BookWithin, book-within}
-use Rattle.electric_rules.specs.Refusals.{rowsBefore, rowsAfter, postOf}
+use Rattle.electric_rules.specs.Refusals.{rowsBefore, postOf}
 use Rattle.electric.specs.Stored.{storedOr12, effectAt, StoredAs}
+use Rattle.riders.specs.Posts as posts
 
 module _ (b : ElectricBook) (p : Posting) {n : ℕ} (e : n ≡ refusalBy (rowsBefore b p)) where
   -- a row before the next book refuses
   pub refused-is : (n ≡ 0 → ⊥) → refused b n ≡ postOf b p
   unfolding postOf
-  refused-is h =
-      let l : 0 < n = omega arith in
-      sym (gives-earlier (rowsBefore b p) (posted (answerOf b p) (nextOf b p)) (refused b) (rowsAfter (nextOf b p)) tt n l (sym e))
+  refused-is = posts.refused-before inLimits (λ (r : Posted). r .book) refused (rowsBefore b p) tt b (posted (answerOf b p) (nextOf b p)) e
 
   -- none does
   module _ (z : n ≡ 0) where
@@ -42,8 +41,8 @@ module _ (b : ElectricBook) (p : Posting) {n : ℕ} (e : n ≡ refusalBy (rowsBe
     posting-ready = none-out-of-range Electric p (none .1 .1 .1 .0)
 
     pub stored-is : storedOr12 b (effectAt (kindOf (p .kind)) b p) ≡ postOf b p
-    unfolding postOf storedOr12
-    stored-is = sym (gives-later (rowsBefore b p) (posted (answerOf b p) (nextOf b p)) (refused b) (rowsAfter (nextOf b p)) tt (sym e ∙ z))
+    unfolding postOf
+    stored-is = posts.none-before inLimits (λ (r : Posted). r .book) refused (rowsBefore b p) tt b (posted (answerOf b p) (nextOf b p)) e z
 
 -- ---- the effect of a kind, by the number that the code has matched
 

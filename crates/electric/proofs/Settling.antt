@@ -1,10 +1,9 @@
 -- A settlement's filings make a book that is stored or refused as the rules' own is: they are the rules' filings where both factors are in
 -- limits, and where one is not, neither book is. Assumes nothing.
-use mathlib.Core.Path.{_≡_, refl, ap, _∙_}
-use mathlib.Core.Bool.{Bool, true, false, not, _&&_}
-use native.Mathlib.Omega.{arith}
+use mathlib.Core.Path.{_≡_, _∙_}
+use mathlib.Core.Bool.{false}
 use lib.IntN.{ℤ}
-use Rattle.refusals.specs.Laws.{row-holds}
+use Rattle.ints.specs.Flags.{and-false}
 use Rattle.amounts.specs.Amounts.{points, pointsInLimits}
 use Rattle.postings.specs.Kinds.{settle}
 use Rattle.postings.specs.declared.Posting.{Posting}
@@ -20,24 +19,21 @@ use Rattle.electric_rules.specs.Levels.{owedBy, filedLevel, settledLevel}
 use Rattle.electric_rules.specs.Limits.{levelInLimits, inLimits}
 use Rattle.electric_rules.specs.Next.{settledWith, settlePosted, filedAnswer, nextAt, answerAt}
 use Rattle.electric.specs.Stored.{storedOr12, effectAt, StoredAs}
+use Rattle.riders.specs.Posts as posts
 
 -- ---- a factor out of limits makes a book out of limits
 
-and-none : (t : Bool) → t && false ≡ false
-and-none true = refl
-and-none false = refl
-
 level-out : (l : Level) → pointsInLimits (l .pending .factor) ≡ false → levelInLimits l ≡ false
 unfolding levelInLimits runInLimits
-level-out l e = simp (e, and-none)
+level-out l e = simp (e, and-false)
 
 secondary-out : (b : ElectricBook) → levelInLimits (b .secondary) ≡ false → inLimits b ≡ false
 unfolding inLimits
-secondary-out b e = simp (e, and-none)
+secondary-out b e = simp (e, and-false)
 
 primary-out : (b : ElectricBook) → levelInLimits (b .primary) ≡ false → inLimits b ≡ false
 unfolding inLimits
-primary-out b e = simp (e, and-none)
+primary-out b e = simp (e, and-false)
 
 -- ---- the settled book, by the levels' quotients
 
@@ -61,8 +57,7 @@ module _ (b : ElectricBook) (p : Posting) where
       (settledWith b (remainder (remainderAfter (ratesOf (b .division)) (b .period))) (filedLevel (run f owedSecondary) (b .secondary)) (filedLevel (run g owedPrimary) (b .primary)))
 
   refused-12 : (next : Posted) → inLimits (next .book) ≡ false → storedOr12 b next ≡ refused b 12
-  unfolding storedOr12
-  refused-12 next e = row-holds 12 _ _ (omega arith) (ap not e)
+  refused-12 = posts.refused-12 inLimits (λ (r : Posted). r .book) refused b
 
   pub stored-as : StoredAs b (settledAt (narrowed quotientSecondary) (narrowed quotientPrimary)) (effectAt settle b p)
   unfolding nextAt answerAt settlePosted filedAnswer settledLevel

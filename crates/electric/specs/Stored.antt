@@ -1,16 +1,16 @@
 -- The last step of a posting that no earlier row refuses: refusal 12, or the answer and the next book.
 use mathlib.Core.Path.{_≡_}
-use Rattle.refusals.specs.Rows.{byTable}
 use Rattle.postings.specs.Kinds.{Kind}
 use Rattle.postings.specs.declared.Posting.{Posting}
 use Rattle.electric_rules.specs.declared.ElectricBook.{ElectricBook}
 use Rattle.electric_rules.specs.declared.Posted.{Posted}
 use Rattle.electric_rules.specs.Book.{posted, refused}
 use Rattle.electric_rules.specs.Next.{nextAt, answerAt}
-use Rattle.electric_rules.specs.Refusals.{rowsAfter}
+use Rattle.electric_rules.specs.Limits.{inLimits}
+use Rattle.riders.specs.Posts as posts
 
-unfoldable pub storedOr12 : ElectricBook → Posted → Posted
-storedOr12 b next = byTable (rowsAfter (next .book)) next (refused b)
+abbrev pub storedOr12 : ElectricBook → Posted → Posted
+storedOr12 = posts.storedOr12 inLimits (λ (r : Posted). r .book) refused
 
 -- what the rules have a posting of the kind answered, and the next book
 abbrev pub effectAt : Kind → ElectricBook → Posting → Posted

@@ -48,3 +48,8 @@ all-below (suc n) f h k l = go (eqb k n) refl (all-below n f (T-right (f n) (all
         let d = eqb-false k n e in
         let l : k < n = omega arith in
         more l
+
+-- no conjunction with what fails
+pub and-false : (t : Bool) → t && false ≡ false
+and-false true = refl
+and-false false = refl

@@ -4,6 +4,7 @@ pub mod Months
 pub mod Runs
 pub mod Lines
 pub mod Histories
+pub mod Posts
 pub mod Waiting
 pub mod Sharing
 pub mod Balances

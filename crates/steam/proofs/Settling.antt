@@ -1,10 +1,9 @@
 -- A factor that the code has narrowed makes a book that is stored or refused as the rules' own is: for a factor out of limits neither is
 -- stored. Assumes nothing.
-use mathlib.Core.Path.{_≡_, refl, ap}
-use mathlib.Core.Bool.{Bool, true, false, not, _&&_}
-use native.Mathlib.Omega.{arith}
+use mathlib.Core.Path.{_≡_}
+use mathlib.Core.Bool.{false}
 use lib.IntN.{ℤ, pos, natAbs}
-use Rattle.refusals.specs.Laws.{row-holds}
+use Rattle.ints.specs.Flags.{and-false}
 use Rattle.amounts.specs.Amounts.{cents, points, pointsInLimits}
 use Rattle.postings.specs.Kinds.{settle, reconcile}
 use Rattle.postings.specs.declared.Posting.{Posting}
@@ -17,16 +16,13 @@ use Rattle.steam_rules.specs.Settlement.{shareOf, remainderAfter, shifted}
 use Rattle.steam_rules.specs.Limits.{reconciliationInLimits, runsInLimits, inLimits}
 use Rattle.steam_rules.specs.Next.{settledWith, withAccount, filedFactor, settlePosted, reconcilePosted, nextAt, answerAt}
 use Rattle.steam.specs.Stored.{storedOr12, effectAt, StoredAs}
-
-and-none : (t : Bool) → t && false ≡ false
-and-none true = refl
-and-none false = refl
+use Rattle.riders.specs.Posts as posts
 
 -- ---- a factor out of limits makes a book out of limits
 
 runs-out : (b : SteamBook) → runsInLimits b ≡ false → inLimits b ≡ false
 unfolding inLimits
-runs-out b e = simp (e, and-none)
+runs-out b e = simp (e, and-false)
 
 pending-out : (b : SteamBook) → pointsInLimits (b .pending .factor) ≡ false → inLimits b ≡ false
 unfolding runsInLimits
@@ -34,12 +30,11 @@ pending-out b e = runs-out b (simp (run-out (b .pending) e))
 
 reconciliation-out : (b : SteamBook) → pointsInLimits (b .reconciliation .run .factor) ≡ false → inLimits b ≡ false
 unfolding runsInLimits reconciliationInLimits
-reconciliation-out b e = runs-out b (simp (run-out (b .reconciliation .run) e, and-none))
+reconciliation-out b e = runs-out b (simp (run-out (b .reconciliation .run) e, and-false))
 
 module _ (b : SteamBook) (p : Posting) where
   refused-12 : (next : Posted) → inLimits (next .book) ≡ false → storedOr12 b next ≡ refused b 12
-  unfolding storedOr12
-  refused-12 next e = row-holds 12 _ _ (omega arith) (ap not e)
+  refused-12 = posts.refused-12 inLimits (λ (r : Posted). r .book) refused b
 
   abbrev pub settledAt : ℤ → Posted
   settledAt f =

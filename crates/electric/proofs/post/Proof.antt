@@ -1,13 +1,15 @@
 -- `electric::post` gives what a posting gives: a row before the next book refuses, or the limits of the next book decide. Assumes nothing.
-use mathlib.Core.Path.{_≡_, sym, ap, _∙_}
-use mathlib.Core.Bool.{not}
-use native.Mathlib.Omega.{arith}
+use mathlib.Core.Path.{_≡_, sym, _∙_}
+use borrow.Author.Tests.{not-true, not-false}
 use borrow.Author.Needs.{needs}
-use Rattle.refusals.specs.Laws.{row-passed, row-holds}
+use Rattle.electric_rules.specs.Book.{refused}
+use Rattle.electric_rules.specs.Limits.{inLimits}
+use Rattle.electric_rules.specs.declared.Posted.{Posted}
 use Rattle.electric_rules.specs.Refusals.{postOf}
 use Rattle.electric.proofs.Ready.{refused-is, known, book-ready, posting-ready, stored-is}
 use Rattle.electric.proofs.post.Statement.{statement}
 use Rattle.electric.specs.Stored.{storedOr12}
+use Rattle.riders.specs.Posts as posts
 use Rattle.electric.proofs.post.Tie as tie
 
 refusal-before-requires : tie.Need-refusal-before-requires
@@ -37,12 +39,10 @@ refuse-requires-2 : tie.Need-refuse-requires-2
 refuse-requires-2 c κs = search needs
 
 returns-2 : tie.Need-returns-2
-unfolding storedOr12
-returns-2 c = c .refuse2 .ensures ∙ sym (row-holds 12 _ _ (omega arith) (ap not (sym (c .before .before .in-limits .ensures)) ∙ c .before .if2 .taken)) ∙ given (c .before .before .before)
+returns-2 c = c .refuse2 .ensures ∙ sym (posts.refused-12 inLimits (λ (r : Posted). r .book) refused _ _ (sym (c .before .before .in-limits .ensures) ∙ not-true _ (c .before .if2 .taken))) ∙ given (c .before .before .before)
 
 returns-3 : tie.Need-returns-3
-unfolding storedOr12
-returns-3 c = sym (row-passed 12 _ _ (ap not (sym (c .before .in-limits .ensures)) ∙ c .if2 .left)) ∙ given (c .before .before)
+returns-3 c = sym (posts.stored inLimits (λ (r : Posted). r .book) refused _ _ (sym (c .before .in-limits .ensures) ∙ not-false _ (c .if2 .left))) ∙ given (c .before .before)
 
 pub post-spec : {M : Type 1} → statement M
 post-spec =
