@@ -11,8 +11,6 @@ use riders::Run;
 ghost use mathlib.Core.Path.{_≡_};
 ghost use lib.IntN.{pos};
 ghost use Rattle.ints.specs.Range.{Between, Within};
-ghost use Rattle.amounts.specs.Amounts.{points};
-ghost use Rattle.riders.specs.Runs.{narrowed};
 ghost use Rattle.electric_rules.specs.Levels.{filedLevel};
 ghost use Rattle.electric_rules.specs.Next.{settledWith};
 ghost use Rattle.electric_rules.specs.Ranges.{LevelWithin};

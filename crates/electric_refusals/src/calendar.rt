@@ -1,6 +1,5 @@
 // The year of the electric book. No other code says which months settle, or which run a month's end lets enter.
 ghost use mathlib.Core.Path.{_≡_};
-ghost use Rattle.riders.specs.Months.{monthAfter};
 ghost use Rattle.electric_rules.specs.Calendar.{settles, entering};
 
 // Whether the month settles: November and May do.

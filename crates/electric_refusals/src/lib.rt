@@ -7,7 +7,6 @@ ghost use mathlib.Core.Path.{_≡_};
 ghost use mathlib.Core.Bool.{true};
 ghost use Rattle.refusals.specs.Rows.{refusalBy};
 ghost use Rattle.postings.specs.Kinds.{kindOf};
-ghost use Rattle.riders.specs.Months.{forbidden};
 ghost use Rattle.electric_rules.specs.Limits.{inLimits};
 ghost use Rattle.electric_rules.specs.Refusals.{nothingSold, rowsBefore};
 

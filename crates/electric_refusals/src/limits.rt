@@ -5,7 +5,6 @@ use electric_rules::Level;
 use electric_rules::Period;
 use electric_rules::Remainder;
 ghost use mathlib.Core.Path.{_≡_};
-ghost use Rattle.riders.specs.Runs.{runInLimits};
 ghost use Rattle.electric_rules.specs.Limits.{kwhInLimits, remainderInLimits, levelInLimits, periodInLimits, datesInLimits, inLimits};
 
 fn kwh_in_limits(sales: Kwh) -> bool

@@ -4,7 +4,6 @@ use amounts::Cents;
 use postings::Answer;
 use riders::Run;
 ghost use mathlib.Core.Path.{_≡_};
-ghost use Rattle.riders.specs.Runs.{noRun};
 ghost use Rattle.electric_rules.specs.Book.{freshLevel, freshOf, openedOf};
 
 // Sales in kWh.

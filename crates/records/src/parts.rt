@@ -9,7 +9,6 @@ ghost use lib.Seq.{sets};
 ghost use Rattle.postings.specs.Kinds.{numbersOf, standing};
 ghost use Rattle.postings.specs.BitMaps.{bitMapOf};
 ghost use Rattle.records.specs.Records.{recordLength, refusedAt, recordOf};
-ghost use Rattle.postings.specs.BitMaps.{bitOf};
 ghost use Rattle.records.specs.Steps.{stepAt, fieldsRead};
 
 // How many bytes remain from a place on.
