@@ -15,10 +15,10 @@ use Rattle.electric_rules.specs.Book.{posted}
 use Rattle.electric_rules.specs.Levels.{filedLevel}
 use Rattle.electric_rules.specs.Next.{settledWith}
 use Rattle.electric_rules.specs.Sizes.{RatesWithin, rates-within, secondary-within, primary-within}
+use Rattle.electric_settlement.specs.Shares.{sharesOf}
+use Rattle.electric_settlement.specs.Filings.{filingOf}
 use Rattle.electric.proofs.Settling.{stored-as}
 use Rattle.electric.proofs.effects.post_settlement.Statement.{statement}
-use Rattle.electric.specs.Shares.{sharesOf}
-use Rattle.electric.specs.Filings.{filingOf}
 use Rattle.electric.specs.Stored.{storedOr12}
 use Rattle.electric.proofs.effects.post_settlement.Tie as tie
 
