@@ -20,8 +20,8 @@ use Rattle.steam_rules.specs.Settlement.{determinantsOf}
 use Rattle.steam_rules.specs.Quarters.{determinants-within}
 use Rattle.steam_rules.specs.Ranges.{book-within}
 use Rattle.steam_rules.specs.Refusals.{nothingSold}
+use Rattle.steam_settlement.specs.Determinants.{determinantsOr0, determinantsOr0-is}
 use Rattle.steam_refusals.proofs.sold_nothing.Statement.{statement}
-use Rattle.steam_refusals.specs.Determinants.{determinantsOr0, determinantsOr0-is}
 use Rattle.steam_refusals.proofs.sold_nothing.Tie as tie
 
 determinants-of-requires : tie.Need-determinants-of-requires

@@ -9,7 +9,8 @@ use Rattle.steam_rules.specs.declared.SteamBook.{SteamBook}
 use Rattle.postings.specs.declared.Answer.the-variants.{Done}
 use Rattle.steam_rules.specs.Book.{posted}
 use Rattle.steam_rules.specs.Next.{endedWith, entered, reconciled, monthEnded, nextAt, answerAt}
-use Rattle.steam.proofs.Parts.{entering-to, entered-within}
+use Rattle.steam_rules.specs.Calendar.{entering-to}
+use Rattle.steam.proofs.Parts.{entered-within}
 use Rattle.steam.proofs.effects.post_month_end.Statement.{statement}
 use Rattle.steam.proofs.effects.post_month_end.Tie as tie
 

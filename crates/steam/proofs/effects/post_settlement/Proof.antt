@@ -14,7 +14,7 @@ use Rattle.steam_rules.specs.Settlement.{determinantsOf}
 use Rattle.steam_rules.specs.Next.{settledWith, filedFactor}
 use Rattle.steam_rules.specs.Quarters.{determinants-within}
 use Rattle.steam_rules.specs.Sizes.{share-within}
-use Rattle.steam_refusals.specs.Determinants.{determinantsOr0, determinantsOr0-is}
+use Rattle.steam_settlement.specs.Determinants.{determinantsOr0, determinantsOr0-is}
 use Rattle.steam.proofs.Settling.{settled-alike}
 use Rattle.steam.proofs.effects.post_settlement.Statement.{statement}
 use Rattle.steam.specs.Stored.{storedOr12}

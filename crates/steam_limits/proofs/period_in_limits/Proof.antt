@@ -1,0 +1,24 @@
+-- `steam_limits::period_in_limits` tests the limits of the open quarter: of each of its amounts. Assumes nothing.
+use mathlib.Core.Bool.{_&&_}
+use borrow.Author.Needs.{needs}
+use Rattle.steam_rules.specs.Limits.{periodInLimits}
+use Rattle.steam_limits.proofs.period_in_limits.Statement.{statement}
+use Rattle.steam_limits.proofs.period_in_limits.Tie as tie
+
+in-limits-requires : tie.Need-in-limits-requires
+in-limits-requires c κs = search needs
+
+in-limits-requires-2 : tie.Need-in-limits-requires-2
+in-limits-requires-2 c κs = search needs
+
+remainder-in-limits-requires : tie.Need-remainder-in-limits-requires
+remainder-in-limits-requires c κs = search needs
+
+returns : tie.Need-returns
+unfolding periodInLimits
+returns c = λ i. c .before .before .in-limits .ensures i && (c .before .in-limits2 .ensures i && c .remainder-in-limits .ensures i)
+
+pub period-in-limits-spec : {M : Type 1} → statement M
+period-in-limits-spec =
+    tie.close
+    (tie.spec in-limits-requires in-limits-requires-2 remainder-in-limits-requires returns)
