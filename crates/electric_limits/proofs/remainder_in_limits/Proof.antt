@@ -1,4 +1,4 @@
--- `limits::remainder_in_limits` tests the limits of the remainder. Assumes nothing.
+-- `electric_limits::remainder_in_limits` tests the limits of the remainder. Assumes nothing.
 use mathlib.Core.Path.{ap, _∙_}
 use lib.IntN.{pos, negℤ}
 use mir.Syntax.{w64}
@@ -7,8 +7,8 @@ use mir.Facts.{toZ-ofZ}
 use borrow.Author.Needs.{needs}
 use Rattle.ints.specs.Range.{inRange}
 use Rattle.electric_rules.specs.Limits.{remainderInLimits}
-use Rattle.electric_refusals.proofs.limits.remainder_in_limits.Statement.{statement}
-use Rattle.electric_refusals.proofs.limits.remainder_in_limits.Tie as tie
+use Rattle.electric_limits.proofs.remainder_in_limits.Statement.{statement}
+use Rattle.electric_limits.proofs.remainder_in_limits.Tie as tie
 
 sub-in-range : tie.Need-sub-in-range
 sub-in-range c = search needs

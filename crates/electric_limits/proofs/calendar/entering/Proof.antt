@@ -1,9 +1,9 @@
--- `calendar::entering` gives the run that the rules enter: its tests are theirs, in their order. Assumes nothing.
+-- `electric_limits::calendar::entering` gives the run that the rules enter: its tests are theirs, in their order. Assumes nothing.
 use mathlib.Core.Path.{sym}
 use borrow.Author.Tests.{ne-eqb}
 use Rattle.electric_rules.specs.Calendar.{entering}
-use Rattle.electric_refusals.proofs.calendar.entering.Statement.{statement}
-use Rattle.electric_refusals.proofs.calendar.entering.Tie as tie
+use Rattle.electric_limits.proofs.calendar.entering.Statement.{statement}
+use Rattle.electric_limits.proofs.calendar.entering.Tie as tie
 
 returns : tie.Need-returns
 unfolding entering

@@ -1,4 +1,4 @@
-// The limits of what an electric book stores.
+// The limits of what an electric book stores, and its calendar.
 use electric_rules::ElectricBook;
 use electric_rules::Kwh;
 use electric_rules::Level;
@@ -6,6 +6,8 @@ use electric_rules::Period;
 use electric_rules::Remainder;
 ghost use mathlib.Core.Path.{_≡_};
 ghost use Rattle.electric_rules.specs.Limits.{kwhInLimits, remainderInLimits, levelInLimits, periodInLimits, datesInLimits, inLimits};
+
+pub mod calendar;
 
 fn kwh_in_limits(sales: Kwh) -> bool
     ensures { λ r. ⌜ r ≡ kwhInLimits sales ⌝ }

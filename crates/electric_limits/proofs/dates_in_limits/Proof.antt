@@ -1,12 +1,12 @@
--- `limits::dates_in_limits` tests the division, the month and what is settled. Assumes nothing.
+-- `electric_limits::dates_in_limits` tests the division, the month and what is settled. Assumes nothing.
 use mathlib.Core.Path.{ap, _∙_}
 use mathlib.Core.Bool.{Bool, _&&_}
 use lib.Dec.{leb}
 use borrow.Author.Needs.{needs}
 use Rattle.riders.specs.Months.{monthInLimits}
 use Rattle.electric_rules.specs.Limits.{datesInLimits}
-use Rattle.electric_refusals.proofs.limits.dates_in_limits.Statement.{statement}
-use Rattle.electric_refusals.proofs.limits.dates_in_limits.Tie as tie
+use Rattle.electric_limits.proofs.dates_in_limits.Statement.{statement}
+use Rattle.electric_limits.proofs.dates_in_limits.Tie as tie
 
 settles-requires : tie.Need-settles-requires
 settles-requires c κs = search needs

@@ -1,9 +1,9 @@
--- `limits::period_in_limits` tests the limits of a period: of each of its amounts. Assumes nothing.
+-- `electric_limits::period_in_limits` tests the limits of a period: of each of its amounts. Assumes nothing.
 use mathlib.Core.Bool.{_&&_}
 use borrow.Author.Needs.{needs}
 use Rattle.electric_rules.specs.Limits.{periodInLimits}
-use Rattle.electric_refusals.proofs.limits.period_in_limits.Statement.{statement}
-use Rattle.electric_refusals.proofs.limits.period_in_limits.Tie as tie
+use Rattle.electric_limits.proofs.period_in_limits.Statement.{statement}
+use Rattle.electric_limits.proofs.period_in_limits.Tie as tie
 
 in-limits-requires : tie.Need-in-limits-requires
 in-limits-requires c κs = search needs

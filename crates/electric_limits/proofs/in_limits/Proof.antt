@@ -1,9 +1,9 @@
--- `limits::in_limits` tests the limits of the book: of its dates, its period and its levels. Assumes nothing.
+-- `electric_limits::in_limits` tests the limits of the book: of its dates, its period and its levels. Assumes nothing.
 use mathlib.Core.Bool.{_&&_}
 use borrow.Author.Needs.{needs}
 use Rattle.electric_rules.specs.Limits.{inLimits}
-use Rattle.electric_refusals.proofs.limits.in_limits.Statement.{statement}
-use Rattle.electric_refusals.proofs.limits.in_limits.Tie as tie
+use Rattle.electric_limits.proofs.in_limits.Statement.{statement}
+use Rattle.electric_limits.proofs.in_limits.Tie as tie
 
 dates-in-limits-requires : tie.Need-dates-in-limits-requires
 dates-in-limits-requires c κs = search needs

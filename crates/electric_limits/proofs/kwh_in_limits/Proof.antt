@@ -1,4 +1,4 @@
--- `limits::kwh_in_limits` tests the limits of stored kWh. Assumes nothing.
+-- `electric_limits::kwh_in_limits` tests the limits of stored kWh. Assumes nothing.
 use mathlib.Core.Path.{ap, _∙_}
 use lib.IntN.{pos}
 use mir.Syntax.{w64}
@@ -7,8 +7,8 @@ use mir.Facts.{toZ-ofZ}
 use borrow.Author.Needs.{needs}
 use Rattle.ints.specs.Range.{inRange}
 use Rattle.electric_rules.specs.Limits.{kwhInLimits}
-use Rattle.electric_refusals.proofs.limits.kwh_in_limits.Statement.{statement}
-use Rattle.electric_refusals.proofs.limits.kwh_in_limits.Tie as tie
+use Rattle.electric_limits.proofs.kwh_in_limits.Statement.{statement}
+use Rattle.electric_limits.proofs.kwh_in_limits.Tie as tie
 
 in-range-requires : tie.Need-in-range-requires
 in-range-requires c κs = search needs

@@ -1,9 +1,9 @@
--- `limits::level_in_limits` tests the limits of a level: of each of its parts. Assumes nothing.
+-- `electric_limits::level_in_limits` tests the limits of a level: of each of its parts. Assumes nothing.
 use mathlib.Core.Bool.{_&&_}
 use borrow.Author.Needs.{needs}
 use Rattle.electric_rules.specs.Limits.{levelInLimits}
-use Rattle.electric_refusals.proofs.limits.level_in_limits.Statement.{statement}
-use Rattle.electric_refusals.proofs.limits.level_in_limits.Tie as tie
+use Rattle.electric_limits.proofs.level_in_limits.Statement.{statement}
+use Rattle.electric_limits.proofs.level_in_limits.Tie as tie
 
 in-limits-requires : tie.Need-in-limits-requires
 in-limits-requires c κs = search needs
