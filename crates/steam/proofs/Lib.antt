@@ -1,4 +1,2 @@
--- Laws over plain values that the functions' proofs cite.
-pub mod Parts
-pub mod Settling
+-- What the rows have shown.
 pub mod Ready

@@ -6,9 +6,9 @@ use Rattle.electric_rules.specs.Book.{refused}
 use Rattle.electric_rules.specs.Limits.{inLimits}
 use Rattle.electric_rules.specs.declared.Posted.{Posted}
 use Rattle.electric_rules.specs.Refusals.{postOf}
+use Rattle.electric_effects.specs.Stored.{storedOr12}
 use Rattle.electric.proofs.Ready.{refused-is, known, book-ready, posting-ready, stored-is}
 use Rattle.electric.proofs.post.Statement.{statement}
-use Rattle.electric.specs.Stored.{storedOr12}
 use Rattle.riders.specs.Posts as posts
 use Rattle.electric.proofs.post.Tie as tie
 

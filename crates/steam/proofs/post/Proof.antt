@@ -6,9 +6,9 @@ use Rattle.steam_rules.specs.Book.{refused}
 use Rattle.steam_rules.specs.Limits.{inLimits}
 use Rattle.steam_rules.specs.declared.Posted.{Posted}
 use Rattle.steam_rules.specs.Refusals.{postOf}
+use Rattle.steam_effects.specs.Stored.{storedOr12}
 use Rattle.steam.proofs.Ready.{refused-is, known, book-ready, posting-ready, stored-is}
 use Rattle.steam.proofs.post.Statement.{statement}
-use Rattle.steam.specs.Stored.{storedOr12}
 use Rattle.riders.specs.Posts as posts
 use Rattle.steam.proofs.post.Tie as tie
 

@@ -1,0 +1,4 @@
+-- Laws over plain values that the functions' proofs cite.
+pub mod Parts
+pub mod Settling
+pub mod ByKind
