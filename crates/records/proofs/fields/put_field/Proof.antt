@@ -31,8 +31,8 @@ field c = a-field _ (λ z. c .if1 .left (ap (ofZ w64) z))
 field-long : (c : tie.Else1) → length (bytesOf (c .before .before .args .number)) ≡ 8
 field-long c = ap length (field c) ∙ length-digits 256 8 _
 
-put-bits-requires : tie.Need-put-bits-requires
-put-bits-requires c κs = omega (arith, c .before .before .before .before .pre, field-long (c .before .before))
+put-word-requires : tie.Need-put-word-requires
+put-word-requires c κs = omega (arith, c .before .before .before .before .pre, field-long (c .before .before))
 
 add-result : tie.Need-add-result
 add-result c = search needs
@@ -44,9 +44,9 @@ returns-2 : tie.Need-returns-2
 returns-2 c =
     let s = c .before .before .before .before .before .before .before in
     let e = field (c .before .before .before .before .before) in
-    (omega (arith, field-long (c .before .before .before .before .before)), c .before .before .put-bits .ensures ∙ ap (λ (n : ℕ). sets (now (s .args .buffer)) (s .args .at) (digits 256 8 n)) (c .before .before .before .bits-of .ensures ∙ ap bitsOf (toZ-ofZ (s .fits .number))) ∙ ap (sets (now (s .args .buffer)) (s .args .at)) (sym e))
+    (omega (arith, field-long (c .before .before .before .before .before)), c .before .before .put-word .ensures ∙ ap (λ (n : ℕ). sets (now (s .args .buffer)) (s .args .at) (digits 256 8 n)) (c .before .before .before .bits-of .ensures ∙ ap bitsOf (toZ-ofZ (s .fits .number))) ∙ ap (sets (now (s .args .buffer)) (s .args .at)) (sym e))
 
 pub put-field-spec : {M : Type 1} → statement M
 put-field-spec =
     tie.close
-    (tie.spec returns bits-of-requires put-bits-requires add-result same-length returns-2)
+    (tie.spec returns bits-of-requires put-word-requires add-result same-length returns-2)

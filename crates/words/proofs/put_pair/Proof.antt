@@ -1,4 +1,4 @@
--- `records::fields::put_pair` stores the last 2 bytes of a number. Assumes nothing.
+-- `words::put_pair` stores the last 2 bytes of a number. Assumes nothing.
 use mathlib.Core.Path.{_≡_, ap}
 use Prim.Native.Nat.{ℕ, suc, _+_, _/_, _%_}
 use native.Mathlib.Omega.{arith}
@@ -6,8 +6,8 @@ use lib.ListN.{set, length-set}
 use denote.Ref.{now}
 use borrow.Author.Needs.{needs}
 use Rattle.ints.specs.Digits.{digits}
-use Rattle.records.proofs.fields.put_pair.Statement.{statement}
-use Rattle.records.proofs.fields.put_pair.Tie as tie
+use Rattle.words.proofs.put_pair.Statement.{statement}
+use Rattle.words.proofs.put_pair.Tie as tie
 
 cast-high : tie.Need-cast-high
 cast-high c = search needs

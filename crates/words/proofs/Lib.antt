@@ -1,0 +1,2 @@
+-- Laws over plain numbers and lists that the functions' proofs cite.
+pub mod Halves
