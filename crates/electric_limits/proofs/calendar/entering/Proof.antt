@@ -11,7 +11,7 @@ returns c = sym (simp (c .if1 .taken))
 
 returns-2 : tie.Need-returns-2
 unfolding entering
-returns-2 c = sym (simp (ne-eqb _ _ (c .before .if1 .left), c .if2 .taken))
+returns-2 c = sym (simp (c .if2 .taken))
 
 returns-3 : tie.Need-returns-3
 unfolding entering

@@ -11,15 +11,15 @@ returns c = sym (simp (c .if1 .taken))
 
 returns-2 : tie.Need-returns-2
 unfolding entering
-returns-2 c = sym (simp (ne-eqb _ _ (c .before .if1 .left), c .if2 .taken))
+returns-2 c = sym (simp (c .if2 .taken))
 
 returns-3 : tie.Need-returns-3
 unfolding entering
-returns-3 c = sym (simp (ne-eqb _ _ (c .before .before .if1 .left), ne-eqb _ _ (c .before .if2 .left), c .if3 .taken))
+returns-3 c = sym (simp (c .if3 .taken))
 
 returns-4 : tie.Need-returns-4
 unfolding entering
-returns-4 c = sym (simp (ne-eqb _ _ (c .before .before .before .if1 .left), ne-eqb _ _ (c .before .before .if2 .left), ne-eqb _ _ (c .before .if3 .left), c .if4 .taken))
+returns-4 c = sym (simp (c .if4 .taken))
 
 returns-5 : tie.Need-returns-5
 unfolding entering

@@ -1,2 +1,0 @@
--- What the rows have shown.
-pub mod Ready
