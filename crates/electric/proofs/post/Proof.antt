@@ -14,12 +14,6 @@ use Rattle.electric.proofs.post.Statement.{statement}
 use Rattle.riders.specs.Posts as posts
 use Rattle.electric.proofs.post.Tie as tie
 
-refusal-before-requires : tie.Need-refusal-before-requires
-refusal-before-requires c κs = search needs
-
-refuse-requires : tie.Need-refuse-requires
-refuse-requires c κs = search needs
-
 returns : tie.Need-returns
 unfolding postOf
 returns c = let s = c .before .before .before .args in
@@ -36,12 +30,6 @@ given c =
     let s = c .before .before .before .args in
     c .effect .ensures ∙ posts.none-before inLimits (λ (r : Posted). r .book) refused (rowsBefore (s .book) (s .posting)) tt (s .book) (posted (answerOf (s .book) (s .posting)) (nextOf (s .book) (s .posting))) (c .before .before .refusal-before .ensures) (c .before .if1 .left)
 
-in-limits-requires : tie.Need-in-limits-requires
-in-limits-requires c κs = search needs
-
-refuse-requires-2 : tie.Need-refuse-requires-2
-refuse-requires-2 c κs = search needs
-
 returns-2 : tie.Need-returns-2
 returns-2 c = c .refuse2 .ensures ∙ sym (posts.refused-12 inLimits (λ (r : Posted). r .book) refused _ _ (sym (c .before .before .in-limits .ensures) ∙ not-true _ (c .before .if2 .taken))) ∙ given (c .before .before .before)
 
@@ -52,11 +40,11 @@ pub post-spec : {M : Type 1} → statement M
 post-spec =
     tie.close
     (tie.spec
-    refusal-before-requires
-    refuse-requires
+    (λ c κs. search needs)
+    (λ c κs. search needs)
     returns
     effect-requires
-    in-limits-requires
-    refuse-requires-2
+    (λ c κs. search needs)
+    (λ c κs. search needs)
     returns-2
     returns-3)

@@ -8,12 +8,6 @@ use Rattle.electric_levels.proofs.Bills.{first-within, second-within}
 use Rattle.electric_levels.proofs.billed.Statement.{statement}
 use Rattle.electric_levels.proofs.billed.Tie as tie
 
-first-part-requires : tie.Need-first-part-requires
-first-part-requires c κs = search needs
-
-second-part-requires : tie.Need-second-part-requires
-second-part-requires c κs = search needs
-
 due-less-requires : tie.Need-due-less-requires
 due-less-requires c κs = let s = c .before .before .args in
     let w = c .before .before .pre in
@@ -35,8 +29,8 @@ pub billed-spec : {M : Type 1} → statement M
 billed-spec =
     tie.close
     (tie.spec
-    first-part-requires
-    second-part-requires
+    (λ c κs. search needs)
+    (λ c κs. search needs)
     due-less-requires
     due-less-requires-2
     returns)

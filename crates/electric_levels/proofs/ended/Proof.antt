@@ -8,9 +8,6 @@ use Rattle.electric_rules.specs.declared.Level.{Level}
 use Rattle.electric_levels.proofs.ended.Statement.{statement}
 use Rattle.electric_levels.proofs.ended.Tie as tie
 
-accrued-requires : tie.Need-accrued-requires
-accrued-requires c κs = search needs
-
 handed-over-requires : tie.Need-handed-over-requires
 unfolding accruedLevel
 handed-over-requires c κs = let l = c .before .pre .0 in
@@ -20,4 +17,4 @@ returns : tie.Need-returns
 returns c = c .handed-over .ensures ∙ ap (handedOver (c .before .before .args .entering)) (c .before .accrued .ensures)
 
 pub ended-spec : {M : Type 1} → statement M
-ended-spec = tie.close (tie.spec accrued-requires handed-over-requires returns)
+ended-spec = tie.close (tie.spec (λ c κs. search needs) handed-over-requires returns)

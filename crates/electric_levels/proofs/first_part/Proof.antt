@@ -19,9 +19,6 @@ cast-round-div c = fits64 (search bounds depth 30) tt
 mul-round-div : tie.Need-mul-round-div
 mul-round-div c = fits64 (search bounds depth 30) tt
 
-round-div-requires : tie.Need-round-div-requires
-round-div-requires c κs = search needs
-
 returns : tie.Need-returns
 returns c = let l = c .before .before .before .before .before .args .level in
     let u = c .before .before .before .before .before .args .posting .second in
@@ -29,4 +26,4 @@ returns c = let l = c .before .before .before .before .before .args .level in
     same-cents (e ∙ first-is u l)
 
 pub first-part-spec : {M : Type 1} → statement M
-first-part-spec = tie.close (tie.spec cast-round-div mul-round-div round-div-requires returns)
+first-part-spec = tie.close (tie.spec cast-round-div mul-round-div (λ c κs. search needs) returns)

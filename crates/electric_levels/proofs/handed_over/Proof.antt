@@ -9,17 +9,11 @@ use Rattle.electric_levels.proofs.handed_over.Tie as tie
 add-t8 : tie.Need-add-t8
 add-t8 c = fits64 (search bounds depth 30) tt
 
-none-requires : tie.Need-none-requires
-none-requires c κs = search needs
-
 returns : tie.Need-returns
 returns c = enters-first (c .before .before .before .before .before .args .entering) (c .before .before .before .before .before .args .level) (c .before .before .before .if1 .taken) (exact (search exacts depth 30) tt) (c .none .ensures)
 
 add-t9 : tie.Need-add-t9
 add-t9 c = fits64 (search bounds depth 30) tt
-
-none-requires-2 : tie.Need-none-requires-2
-none-requires-2 c κs = search needs
 
 returns-2 : tie.Need-returns-2
 returns-2 c = enters-second (c .before .before .before .before .before .before .args .entering) (c .before .before .before .before .before .before .args .level) (c .before .before .before .if2 .taken) (exact (search exacts depth 30) tt) (c .none2 .ensures)
@@ -29,4 +23,4 @@ returns-3 c = enters-neither (c .before .before .before .args .entering) (c .bef
 
 pub handed-over-spec : {M : Type 1} → statement M
 handed-over-spec =
-    tie.close (tie.spec add-t8 none-requires returns add-t9 none-requires-2 returns-2 returns-3)
+    tie.close (tie.spec add-t8 (λ c κs. search needs) returns add-t9 (λ c κs. search needs) returns-2 returns-3)

@@ -15,17 +15,11 @@ use Rattle.electric_levels.proofs.Bills.{bearing-within}
 use Rattle.electric_levels.proofs.interest.Statement.{statement}
 use Rattle.electric_levels.proofs.interest.Tie as tie
 
-bearing-requires : tie.Need-bearing-requires
-bearing-requires c κs = search needs
-
 mul-round-div : tie.Need-mul-round-div
 mul-round-div c = let w = c .before .before .before .before .before .pre in
     let balance : Within 5000000000000 (c .before .before .before .before .bearing .result .0) = between-same (λ i. c .before .before .before .before .bearing .ensures i .0) (bearing-within (c .before .before .before .before .before .args .level) (w .0)) in
     let rate = w .1 .0 in
     fits64 (search (bounds, balance, rate) depth 30) tt
-
-round-div-requires : tie.Need-round-div-requires
-round-div-requires c κs = search needs
 
 returns : tie.Need-returns
 unfolding interestOn
@@ -36,4 +30,4 @@ returns c = let w = c .before .before .before .before .before .before .pre in
     same-cents (e ∙ (λ i. round (c .before .before .before .before .before .before .args .posting .first *ℤ c .before .before .before .before .before .bearing .ensures i .0) (pos 12000000)))
 
 pub interest-spec : {M : Type 1} → statement M
-interest-spec = tie.close (tie.spec bearing-requires mul-round-div round-div-requires returns)
+interest-spec = tie.close (tie.spec (λ c κs. search needs) mul-round-div (λ c κs. search needs) returns)

@@ -25,9 +25,6 @@ add-round-div c = fits64 (search bounds depth 30) tt
 mul-round-div : tie.Need-mul-round-div
 mul-round-div c = fits64 (search bounds depth 30) tt
 
-round-div-requires : tie.Need-round-div-requires
-round-div-requires c κs = search needs
-
 returns : tie.Need-returns
 returns c = let l = c .before .before .before .before .before .before .before .args .level in
     let u = c .before .before .before .before .before .before .before .args .posting .second in
@@ -42,5 +39,5 @@ line-spec =
     cast-round-div-2
     add-round-div
     mul-round-div
-    round-div-requires
+    (λ c κs. search needs)
     returns)

@@ -8,16 +8,10 @@ use Rattle.electric_rules.specs.Limits.{datesInLimits}
 use Rattle.electric_limits.proofs.dates_in_limits.Statement.{statement}
 use Rattle.electric_limits.proofs.dates_in_limits.Tie as tie
 
-settles-requires : tie.Need-settles-requires
-settles-requires c κs = search needs
-
-in-limits-requires : tie.Need-in-limits-requires
-in-limits-requires c κs = search needs
-
 returns : tie.Need-returns
 unfolding datesInLimits
 returns c = let s = c .before .before .before .args .book in
     ap (λ (t : Bool). leb (s .division) 1 && t) (c .in-limits .ensures ∙ ap (λ (t : Bool). monthInLimits (s .month) t (s .settled)) (c .before .settles .ensures))
 
 pub dates-in-limits-spec : {M : Type 1} → statement M
-dates-in-limits-spec = tie.close (tie.spec settles-requires in-limits-requires returns)
+dates-in-limits-spec = tie.close (tie.spec (λ c κs. search needs) (λ c κs. search needs) returns)

@@ -5,18 +5,6 @@ use Rattle.electric_rules.specs.Limits.{inLimits}
 use Rattle.electric_limits.proofs.in_limits.Statement.{statement}
 use Rattle.electric_limits.proofs.in_limits.Tie as tie
 
-dates-in-limits-requires : tie.Need-dates-in-limits-requires
-dates-in-limits-requires c κs = search needs
-
-period-in-limits-requires : tie.Need-period-in-limits-requires
-period-in-limits-requires c κs = search needs
-
-level-in-limits-requires : tie.Need-level-in-limits-requires
-level-in-limits-requires c κs = search needs
-
-level-in-limits-requires-2 : tie.Need-level-in-limits-requires-2
-level-in-limits-requires-2 c κs = search needs
-
 returns : tie.Need-returns
 unfolding inLimits
 returns c = λ i.
@@ -27,8 +15,8 @@ pub in-limits-spec : {M : Type 1} → statement M
 in-limits-spec =
     tie.close
     (tie.spec
-    dates-in-limits-requires
-    period-in-limits-requires
-    level-in-limits-requires
-    level-in-limits-requires-2
+    (λ c κs. search needs)
+    (λ c κs. search needs)
+    (λ c κs. search needs)
+    (λ c κs. search needs)
     returns)

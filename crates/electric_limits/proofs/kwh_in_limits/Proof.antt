@@ -10,9 +10,6 @@ use Rattle.electric_rules.specs.Limits.{kwhInLimits}
 use Rattle.electric_limits.proofs.kwh_in_limits.Statement.{statement}
 use Rattle.electric_limits.proofs.kwh_in_limits.Tie as tie
 
-in-range-requires : tie.Need-in-range-requires
-in-range-requires c κs = search needs
-
 returns : tie.Need-returns
 unfolding kwhInLimits
 returns c = let s = c .before .before .args .sales in
@@ -20,4 +17,4 @@ returns c = let s = c .before .before .args .sales in
     c .in-range .ensures ∙ ap (inRange (pos 0) (pos 10000000000)) (toZ-ofZ f)
 
 pub kwh-in-limits-spec : {M : Type 1} → statement M
-kwh-in-limits-spec = tie.close (tie.spec in-range-requires returns)
+kwh-in-limits-spec = tie.close (tie.spec (λ c κs. search needs) returns)

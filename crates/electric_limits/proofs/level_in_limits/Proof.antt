@@ -5,21 +5,6 @@ use Rattle.electric_rules.specs.Limits.{levelInLimits}
 use Rattle.electric_limits.proofs.level_in_limits.Statement.{statement}
 use Rattle.electric_limits.proofs.level_in_limits.Tie as tie
 
-in-limits-requires : tie.Need-in-limits-requires
-in-limits-requires c κs = search needs
-
-in-limits-requires-2 : tie.Need-in-limits-requires-2
-in-limits-requires-2 c κs = search needs
-
-in-limits-requires-3 : tie.Need-in-limits-requires-3
-in-limits-requires-3 c κs = search needs
-
-in-limits-requires-4 : tie.Need-in-limits-requires-4
-in-limits-requires-4 c κs = search needs
-
-in-limits-requires-5 : tie.Need-in-limits-requires-5
-in-limits-requires-5 c κs = search needs
-
 returns : tie.Need-returns
 unfolding levelInLimits
 returns c = λ i.
@@ -30,9 +15,9 @@ pub level-in-limits-spec : {M : Type 1} → statement M
 level-in-limits-spec =
     tie.close
     (tie.spec
-    in-limits-requires
-    in-limits-requires-2
-    in-limits-requires-3
-    in-limits-requires-4
-    in-limits-requires-5
+    (λ c κs. search needs)
+    (λ c κs. search needs)
+    (λ c κs. search needs)
+    (λ c κs. search needs)
+    (λ c κs. search needs)
     returns)

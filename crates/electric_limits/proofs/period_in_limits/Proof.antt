@@ -5,18 +5,6 @@ use Rattle.electric_rules.specs.Limits.{periodInLimits}
 use Rattle.electric_limits.proofs.period_in_limits.Statement.{statement}
 use Rattle.electric_limits.proofs.period_in_limits.Tie as tie
 
-in-limits-requires : tie.Need-in-limits-requires
-in-limits-requires c κs = search needs
-
-kwh-in-limits-requires : tie.Need-kwh-in-limits-requires
-kwh-in-limits-requires c κs = search needs
-
-kwh-in-limits-requires-2 : tie.Need-kwh-in-limits-requires-2
-kwh-in-limits-requires-2 c κs = search needs
-
-remainder-in-limits-requires : tie.Need-remainder-in-limits-requires
-remainder-in-limits-requires c κs = search needs
-
 returns : tie.Need-returns
 unfolding periodInLimits
 returns c = λ i.
@@ -27,8 +15,8 @@ pub period-in-limits-spec : {M : Type 1} → statement M
 period-in-limits-spec =
     tie.close
     (tie.spec
-    in-limits-requires
-    kwh-in-limits-requires
-    kwh-in-limits-requires-2
-    remainder-in-limits-requires
+    (λ c κs. search needs)
+    (λ c κs. search needs)
+    (λ c κs. search needs)
+    (λ c κs. search needs)
     returns)

@@ -10,12 +10,6 @@ use Rattle.electric_rules.specs.Limits.{remainderInLimits}
 use Rattle.electric_limits.proofs.remainder_in_limits.Statement.{statement}
 use Rattle.electric_limits.proofs.remainder_in_limits.Tie as tie
 
-sub-in-range : tie.Need-sub-in-range
-sub-in-range c = search needs
-
-in-range-requires : tie.Need-in-range-requires
-in-range-requires c κs = search needs
-
 returns : tie.Need-returns
 unfolding remainderInLimits
 returns c = let s = c .before .before .args .remainder in
@@ -23,4 +17,4 @@ returns c = let s = c .before .before .args .remainder in
     c .in-range .ensures ∙ ap (inRange (negℤ (pos 50000)) (pos 50000)) (toZ-ofZ f)
 
 pub remainder-in-limits-spec : {M : Type 1} → statement M
-remainder-in-limits-spec = tie.close (tie.spec sub-in-range in-range-requires returns)
+remainder-in-limits-spec = tie.close (tie.spec (λ c. search needs) (λ c κs. search needs) returns)

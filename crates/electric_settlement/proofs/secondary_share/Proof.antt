@@ -22,9 +22,6 @@ mul-round-div c = let s = c .before .before .before .before .args in
     let weight : Between (pos 0) (pos 100000) (s .weight .0) = between-same (λ i. w .3 i .0) (weight-within (s .rates) (s .period) (w .0) (w .1)) in
     fits64 (search (bounds, share, weight) depth 30) tt
 
-round-div-requires : tie.Need-round-div-requires
-round-div-requires c κs = search needs
-
 returns : tie.Need-returns
 unfolding secondaryShare
 returns c = let s = c .before .before .before .before .before .args in
@@ -35,4 +32,4 @@ returns c = let s = c .before .before .before .before .before .args in
     same-cents (e ∙ (λ i. round (w .2 i .0 *ℤ w .3 i .0) (pos 100000)))
 
 pub secondary-share-spec : {M : Type 1} → statement M
-secondary-share-spec = tie.close (tie.spec mul-round-div round-div-requires returns)
+secondary-share-spec = tie.close (tie.spec mul-round-div (λ c κs. search needs) returns)

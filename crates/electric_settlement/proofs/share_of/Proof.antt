@@ -14,9 +14,6 @@ use Rattle.electric_rules.specs.Sizes.{shareable-within}
 use Rattle.electric_settlement.proofs.share_of.Statement.{statement}
 use Rattle.electric_settlement.proofs.share_of.Tie as tie
 
-round-div-requires : tie.Need-round-div-requires
-round-div-requires c κs = search needs
-
 returns : tie.Need-returns
 unfolding shareOf
 returns c = let s = c .before .before .args in
@@ -26,4 +23,4 @@ returns c = let s = c .before .before .args in
     same-cents (e ∙ (λ i. round (w .2 i .0) (pos 100000)))
 
 pub share-of-spec : {M : Type 1} → statement M
-share-of-spec = tie.close (tie.spec round-div-requires returns)
+share-of-spec = tie.close (tie.spec (λ c κs. search needs) returns)

@@ -20,9 +20,6 @@ mul-weight c = fits64 (search bounds depth 30) tt
 mul-weight-2 : tie.Need-mul-weight-2
 mul-weight-2 c = fits64 (search bounds depth 30) tt
 
-weight-requires : tie.Need-weight-requires
-weight-requires c κs = search needs
-
 returns : tie.Need-returns
 unfolding weightBy
 returns c = let s = c .before .before .before .before .before .before .before .before .before .args in
@@ -39,4 +36,4 @@ returns c = let s = c .before .before .before .before .before .before .before .b
     i))
 
 pub weight-by-spec : {M : Type 1} → statement M
-weight-by-spec = tie.close (tie.spec mul-weight mul-weight-2 weight-requires returns)
+weight-by-spec = tie.close (tie.spec mul-weight mul-weight-2 (λ c κs. search needs) returns)

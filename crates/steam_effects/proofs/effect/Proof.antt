@@ -28,9 +28,6 @@ post-settlement-requires : tie.Need-post-settlement-requires
 unfolding kindOf
 post-settlement-requires c κs = (c .before .pre .0, ranged-as Steam (c .before .args .posting) (c .match .keys4) (c .before .pre .1))
 
-post-month-end-requires : tie.Need-post-month-end-requires
-post-month-end-requires c κs = search needs
-
 post-adjustment-requires : tie.Need-post-adjustment-requires
 unfolding kindOf
 post-adjustment-requires c κs = (c .before .pre .0, ranged-as Steam (c .before .args .posting) (c .match .keys6) (c .before .pre .1))
@@ -75,7 +72,7 @@ effect-spec =
     post-sales-requires
     post-bill-requires
     post-settlement-requires
-    post-month-end-requires
+    (λ c κs. search needs)
     post-adjustment-requires
     post-reconciliation-requires
     returns

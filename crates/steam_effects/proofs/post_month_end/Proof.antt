@@ -14,9 +14,6 @@ use Rattle.steam_effects.proofs.Parts.{entered-within}
 use Rattle.steam_effects.proofs.post_month_end.Statement.{statement}
 use Rattle.steam_effects.proofs.post_month_end.Tie as tie
 
-entering-requires : tie.Need-entering-requires
-entering-requires c κs = search needs
-
 few : (c : tie.After-entering) → c .entering .result ≤ 4
 few c = subst (λ (n : ℕ). n ≤ 4) (sym (c .entering .ensures)) (entering-to (c .before .args .book .month))
 
@@ -25,9 +22,6 @@ entered-requires c κs = (few c, c .before .pre)
 
 reconciled-requires : tie.Need-reconciled-requires
 reconciled-requires c κs = subst (λ (b : SteamBook). Within 2000000000000 (b .carried .0) × RunWithin (b .reconciliation .run)) (sym (c .entered .ensures)) (entered-within _ _ (few (c .before)) (c .before .before .pre))
-
-month-after-requires : tie.Need-month-after-requires
-month-after-requires c κs = search needs
 
 returns : tie.Need-returns
 unfolding nextAt answerAt monthEnded
@@ -39,4 +33,4 @@ returns c = let b = c .before .before .before .before .args .book in
 pub post-month-end-spec : {M : Type 1} → statement M
 post-month-end-spec =
     tie.close
-    (tie.spec entering-requires entered-requires reconciled-requires month-after-requires returns)
+    (tie.spec (λ c κs. search needs) entered-requires reconciled-requires (λ c κs. search needs) returns)

@@ -5,15 +5,6 @@ use Rattle.steam_rules.specs.Limits.{periodInLimits}
 use Rattle.steam_limits.proofs.period_in_limits.Statement.{statement}
 use Rattle.steam_limits.proofs.period_in_limits.Tie as tie
 
-in-limits-requires : tie.Need-in-limits-requires
-in-limits-requires c κs = search needs
-
-in-limits-requires-2 : tie.Need-in-limits-requires-2
-in-limits-requires-2 c κs = search needs
-
-remainder-in-limits-requires : tie.Need-remainder-in-limits-requires
-remainder-in-limits-requires c κs = search needs
-
 returns : tie.Need-returns
 unfolding periodInLimits
 returns c = λ i. c .before .before .in-limits .ensures i && (c .before .in-limits2 .ensures i && c .remainder-in-limits .ensures i)
@@ -21,4 +12,4 @@ returns c = λ i. c .before .before .in-limits .ensures i && (c .before .in-limi
 pub period-in-limits-spec : {M : Type 1} → statement M
 period-in-limits-spec =
     tie.close
-    (tie.spec in-limits-requires in-limits-requires-2 remainder-in-limits-requires returns)
+    (tie.spec (λ c κs. search needs) (λ c κs. search needs) (λ c κs. search needs) returns)

@@ -10,9 +10,6 @@ use Rattle.steam_rules.specs.Limits.{reconciliationInLimits}
 use Rattle.steam_limits.proofs.reconciliation_in_limits.Statement.{statement}
 use Rattle.steam_limits.proofs.reconciliation_in_limits.Tie as tie
 
-in-limits-requires : tie.Need-in-limits-requires
-in-limits-requires c κs = search needs
-
 returns : tie.Need-returns
 unfolding reconciliationInLimits
 returns c = let r = c .before .before .before .before .before .before .before .args .reconciliation in
@@ -21,4 +18,4 @@ returns c = let r = c .before .before .before .before .before .before .before .a
     λ i. leb (r .months) 24 && (c .before .before .before .before .before .in-limits .ensures i && (not (eqb (r .months) 0) || (eqZ-bits f zero32 i && eqZ-bits d zero64 i)))
 
 pub reconciliation-in-limits-spec : {M : Type 1} → statement M
-reconciliation-in-limits-spec = tie.close (tie.spec in-limits-requires returns)
+reconciliation-in-limits-spec = tie.close (tie.spec (λ c κs. search needs) returns)

@@ -5,18 +5,6 @@ use Rattle.steam_rules.specs.Limits.{runsInLimits}
 use Rattle.steam_limits.proofs.runs_in_limits.Statement.{statement}
 use Rattle.steam_limits.proofs.runs_in_limits.Tie as tie
 
-in-limits-requires : tie.Need-in-limits-requires
-in-limits-requires c κs = search needs
-
-factors-in-limits-requires : tie.Need-factors-in-limits-requires
-factors-in-limits-requires c κs = search needs
-
-dues-in-limits-requires : tie.Need-dues-in-limits-requires
-dues-in-limits-requires c κs = search needs
-
-reconciliation-in-limits-requires : tie.Need-reconciliation-in-limits-requires
-reconciliation-in-limits-requires c κs = search needs
-
 returns : tie.Need-returns
 unfolding runsInLimits
 returns c = λ i.
@@ -27,8 +15,8 @@ pub runs-in-limits-spec : {M : Type 1} → statement M
 runs-in-limits-spec =
     tie.close
     (tie.spec
-    in-limits-requires
-    factors-in-limits-requires
-    dues-in-limits-requires
-    reconciliation-in-limits-requires
+    (λ c κs. search needs)
+    (λ c κs. search needs)
+    (λ c κs. search needs)
+    (λ c κs. search needs)
     returns)

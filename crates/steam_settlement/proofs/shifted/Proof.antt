@@ -6,19 +6,10 @@ use Rattle.steam_rules.specs.Quarters.{shifted-four}
 use Rattle.steam_settlement.proofs.shifted.Statement.{statement}
 use Rattle.steam_settlement.proofs.shifted.Tie as tie
 
-array-copy-out-t6 : tie.Need-array-copy-out-t6
-array-copy-out-t6 c = search needs
-
-array-copy-out-t9 : tie.Need-array-copy-out-t9
-array-copy-out-t9 c = search needs
-
-array-copy-out-t12 : tie.Need-array-copy-out-t12
-array-copy-out-t12 c = search needs
-
 returns : tie.Need-returns
 returns c = let s = c .before .before .before .args in
     let l : length (s .t1) ≡ 4 = search needs in
     shifted-four (s .t1) l (s .newest)
 
 pub shifted-spec : {M : Type 1} → statement M
-shifted-spec = tie.close (tie.spec array-copy-out-t6 array-copy-out-t9 array-copy-out-t12 returns)
+shifted-spec = tie.close (tie.spec (λ c. search needs) (λ c. search needs) (λ c. search needs) returns)

@@ -21,12 +21,6 @@ add-owed-2 c = fits64 (search bounds depth 30) tt
 mul-round-div : tie.Need-mul-round-div
 mul-round-div c = fits64 (search bounds depth 30) tt
 
-round-div-requires : tie.Need-round-div-requires
-round-div-requires c κs = search needs
-
-factor-requires : tie.Need-factor-requires
-factor-requires c κs = search needs
-
 returns : tie.Need-returns
 unfolding owedBy factorFor
 returns c = let s = c .before .before .before .before .before .before .before .before .before .args in
@@ -36,4 +30,4 @@ returns c = let s = c .before .before .before .before .before .before .before .b
 pub filing-of-spec : {M : Type 1} → statement M
 filing-of-spec =
     tie.close
-    (tie.spec add-owed add-owed-2 mul-round-div round-div-requires factor-requires returns)
+    (tie.spec add-owed add-owed-2 mul-round-div (λ c κs. search needs) (λ c κs. search needs) returns)

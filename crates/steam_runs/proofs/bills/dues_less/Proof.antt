@@ -11,17 +11,11 @@ use Rattle.steam_runs.proofs.BillLines.{dueAt, lines-within, dues-fall}
 use Rattle.steam_runs.proofs.bills.dues_less.Statement.{statement}
 use Rattle.steam_runs.proofs.bills.dues_less.Tie as tie
 
-element-copy-out-due-less : tie.Need-element-copy-out-due-less
-element-copy-out-due-less c = search needs
-
 due-less-requires : tie.Need-due-less-requires
 due-less-requires c κs = let s = c .before .args in
     let w = c .before .pre in
     let lines = lines-within (s .posting .first) (s .t1) (s .lines) (w .0) (w .1 .0) (w .2) in
     (at (cents (pos 0)) (w .0 .runs .dues) 0 (omega arith), lines .first, omega signed)
-
-element-copy-out-due-less-2 : tie.Need-element-copy-out-due-less-2
-element-copy-out-due-less-2 c = search needs
 
 due-less-requires-2 : tie.Need-due-less-requires-2
 due-less-requires-2 c κs = let s = c .before .before .before .args in
@@ -29,17 +23,11 @@ due-less-requires-2 c κs = let s = c .before .before .before .args in
     let lines = lines-within (s .posting .first) (s .t1) (s .lines) (w .0) (w .1 .0) (w .2) in
     (at (cents (pos 0)) (w .0 .runs .dues) 1 (omega arith), lines .second, lines .first)
 
-element-copy-out-due-less-3 : tie.Need-element-copy-out-due-less-3
-element-copy-out-due-less-3 c = search needs
-
 due-less-requires-3 : tie.Need-due-less-requires-3
 due-less-requires-3 c κs = let s = c .before .before .before .before .before .args in
     let w = c .before .before .before .before .before .pre in
     let lines = lines-within (s .posting .first) (s .t1) (s .lines) (w .0) (w .1 .0) (w .2) in
     (at (cents (pos 0)) (w .0 .runs .dues) 2 (omega arith), lines .third, lines .second)
-
-element-copy-out-due-less-4 : tie.Need-element-copy-out-due-less-4
-element-copy-out-due-less-4 c = search needs
 
 due-less-requires-4 : tie.Need-due-less-requires-4
 due-less-requires-4 c κs = let s = c .before .before .before .before .before .before .before .args in
@@ -64,12 +52,12 @@ pub dues-less-spec : {M : Type 1} → statement M
 dues-less-spec =
     tie.close
     (tie.spec
-    element-copy-out-due-less
+    (λ c. search needs)
     due-less-requires
-    element-copy-out-due-less-2
+    (λ c. search needs)
     due-less-requires-2
-    element-copy-out-due-less-3
+    (λ c. search needs)
     due-less-requires-3
-    element-copy-out-due-less-4
+    (λ c. search needs)
     due-less-requires-4
     returns)

@@ -10,11 +10,8 @@ use Rattle.steam_runs.proofs.bills.line_at.Tie as tie
 mul-round-div : tie.Need-mul-round-div
 mul-round-div c = fits64 (search bounds depth 30) tt
 
-round-div-requires : tie.Need-round-div-requires
-round-div-requires c κs = search needs
-
 returns : tie.Need-returns
 returns c = same-cents (exact (search (exacts, rounds, e-eq) depth 30) tt)
 
 pub line-at-spec : {M : Type 1} → statement M
-line-at-spec = tie.close (tie.spec mul-round-div round-div-requires returns)
+line-at-spec = tie.close (tie.spec mul-round-div (λ c κs. search needs) returns)

@@ -9,18 +9,6 @@ use Rattle.steam_runs.proofs.BillLines.{factorAt, lastFactor, factors-w
 use Rattle.steam_runs.proofs.bills.lines_of.Statement.{statement}
 use Rattle.steam_runs.proofs.bills.lines_of.Tie as tie
 
-element-copy-out-run-1 : tie.Need-element-copy-out-run-1
-element-copy-out-run-1 c = search needs
-
-element-copy-out-run-2 : tie.Need-element-copy-out-run-2
-element-copy-out-run-2 c = search needs
-
-element-copy-out-run-3 : tie.Need-element-copy-out-run-3
-element-copy-out-run-3 c = search needs
-
-element-copy-out-run-4 : tie.Need-element-copy-out-run-4
-element-copy-out-run-4 c = search needs
-
 cast-one : tie.Need-cast-one
 cast-one c = let first = factors-within (c .before .before .before .before .before .before .args .t1) (c .before .before .before .before .before .before .pre .0) .first in fits64 (search (bounds, first) depth 30) tt
 
@@ -122,10 +110,10 @@ pub lines-of-spec : {M : Type 1} → statement M
 lines-of-spec =
     tie.close
     (tie.spec
-    element-copy-out-run-1
-    element-copy-out-run-2
-    element-copy-out-run-3
-    element-copy-out-run-4
+    (λ c. search needs)
+    (λ c. search needs)
+    (λ c. search needs)
+    (λ c. search needs)
     cast-one
     cast-two
     add-two

@@ -17,39 +17,12 @@ use Rattle.steam_runs.proofs.month_ends.entered.Tie as tie
 returns : tie.Need-returns
 returns c = none-enters (c .before .args .run) (c .before .args .t2) (c .if1 .taken)
 
-sub-place : tie.Need-sub-place
-sub-place c = search needs
-
-cast-place : tie.Need-cast-place
-cast-place c = search needs
-
-mul-due : tie.Need-mul-due
-mul-due c = search needs
-
-element-copy-out-due : tie.Need-element-copy-out-due
-element-copy-out-due c = search needs
-
 add-t18 : tie.Need-add-t18
 add-t18 c = let s = c .before .before .before .before .before .args in
     let w = c .before .before .before .before .before .pre in
     let carried = w .1 .carried in
     let due : Within 1000000000000 (dueAt (s .t2) (s .run - 1)) = at (cents (pos 0)) (w .1 .runs .dues) (s .run - 1) (let m = w .0 in let z = c .before .before .before .before .if1 .left in omega arith) in
     fits64 (search (bounds, carried, due) depth 30) tt
-
-none-requires : tie.Need-none-requires
-none-requires c κs = search needs
-
-mul-factor : tie.Need-mul-factor
-mul-factor c = search needs
-
-element-set-from-factor : tie.Need-element-set-from-factor
-element-set-from-factor c = search needs
-
-mul-waiting : tie.Need-mul-waiting
-mul-waiting c = search needs
-
-element-set-from-waiting : tie.Need-element-set-from-waiting
-element-set-from-waiting c = search needs
 
 returns-2 : tie.Need-returns-2
 returns-2 c = let s = c .before .before .before .before .before .before .before .before .before .args in
@@ -65,14 +38,14 @@ entered-spec =
     tie.close
     (tie.spec
     returns
-    sub-place
-    cast-place
-    mul-due
-    element-copy-out-due
+    (λ c. search needs)
+    (λ c. search needs)
+    (λ c. search needs)
+    (λ c. search needs)
     add-t18
-    none-requires
-    mul-factor
-    element-set-from-factor
-    mul-waiting
-    element-set-from-waiting
+    (λ c κs. search needs)
+    (λ c. search needs)
+    (λ c. search needs)
+    (λ c. search needs)
+    (λ c. search needs)
     returns-2)

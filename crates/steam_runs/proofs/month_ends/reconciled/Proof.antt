@@ -14,20 +14,14 @@ add-t7 c = let k = c .before .before .before .before .pre .0 in
     let d = c .before .before .before .before .pre .1 .due in
     fits64 (search (bounds, k, d) depth 30) tt
 
-none-requires : tie.Need-none-requires
-none-requires c κs = search needs
-
 returns-2 : tie.Need-returns-2
 returns-2 c = let k = c .before .before .before .before .before .pre .0 in
     let d = c .before .before .before .before .before .pre .1 .due in
     last-month (c .before .before .before .before .before .args .book) (c .before .before .before .if2 .taken) (exact (search (exacts, k, d) depth 30) tt) (c .none .ensures)
-
-sub-reconciliation : tie.Need-sub-reconciliation
-sub-reconciliation c = search needs
 
 returns-3 : tie.Need-returns-3
 returns-3 c = month-lost (c .before .before .before .args .book) (c .before .before .if1 .left) (c .before .if2 .left)
 
 pub reconciled-spec : {M : Type 1} → statement M
 reconciled-spec =
-    tie.close (tie.spec returns add-t7 none-requires returns-2 sub-reconciliation returns-3)
+    tie.close (tie.spec returns add-t7 (λ c κs. search needs) returns-2 (λ c. search needs) returns-3)

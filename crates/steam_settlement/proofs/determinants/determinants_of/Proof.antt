@@ -31,27 +31,15 @@ ranged c =
     let f : SFits w64 (c .before .before .before .before .before .before .before .args .adjustment .0) = search needs in
     inRange-true _ _ _ (tested-not between f (c .before .in-range .ensures) (c .if3 .left))
 
-in-limits-requires : tie.Need-in-limits-requires
-in-limits-requires c κs = search needs
-
 returns : tie.Need-returns
 unfolding determinantsOr0
 returns c = let out : mmbtuInLimits (c .before .before .args .sales) ≡ false = sym (c .before .in-limits .ensures) ∙ not-true _ (c .if1 .taken) in
     same-mmbtu (sym (simp out))
 
-quarters-in-limits-requires : tie.Need-quarters-in-limits-requires
-quarters-in-limits-requires c κs = search needs
-
 returns-2 : tie.Need-returns-2
 unfolding determinantsOr0
 returns-2 c = let out : quartersInLimits (c .before .before .before .before .args .quarters) ≡ false = sym (c .before .quarters-in-limits .ensures) ∙ not-true _ (c .if2 .taken) in
     same-mmbtu (sym (simp (sold (c .before .before), out)))
-
-sub-in-range : tie.Need-sub-in-range
-sub-in-range c = search needs
-
-in-range-requires : tie.Need-in-range-requires
-in-range-requires c κs = search needs
 
 returns-3 : tie.Need-returns-3
 unfolding determinantsOr0
@@ -69,12 +57,12 @@ pub determinants-of-spec : {M : Type 1} → statement M
 determinants-of-spec =
     tie.close
     (tie.spec
-    in-limits-requires
+    (λ c κs. search needs)
     returns
-    quarters-in-limits-requires
+    (λ c κs. search needs)
     returns-2
-    sub-in-range
-    in-range-requires
+    (λ c. search needs)
+    (λ c κs. search needs)
     returns-3
     determinants-within-requires
     returns-4)

@@ -17,12 +17,6 @@ use Rattle.steam_rules.specs.Quarters.{year-within}
 use Rattle.steam_settlement.proofs.determinants.determinants_within.Statement.{statement}
 use Rattle.steam_settlement.proofs.determinants.determinants_within.Tie as tie
 
-year-of-requires : tie.Need-year-of-requires
-year-of-requires c κs = search needs
-
-array-copy-out-off-by-five : tie.Need-array-copy-out-off-by-five
-array-copy-out-off-by-five c = search needs
-
 off-by-five-requires : tie.Need-off-by-five-requires
 off-by-five-requires c κs = let w = c .before .before .pre in (w .0, at (mmbtu (pos 0)) (w .1) 0 (omega arith))
 
@@ -56,8 +50,8 @@ pub determinants-within-spec : {M : Type 1} → statement M
 determinants-within-spec =
     tie.close
     (tie.spec
-    year-of-requires
-    array-copy-out-off-by-five
+    (λ c κs. search needs)
+    (λ c. search needs)
     off-by-five-requires
     add-t11
     returns

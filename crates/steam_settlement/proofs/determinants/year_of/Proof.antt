@@ -12,15 +12,6 @@ use Rattle.steam_rules.specs.Quarters.{quarterAt, sold-three}
 use Rattle.steam_settlement.proofs.determinants.year_of.Statement.{statement}
 use Rattle.steam_settlement.proofs.determinants.year_of.Tie as tie
 
-array-copy-out-second : tie.Need-array-copy-out-second
-array-copy-out-second c = search needs
-
-array-copy-out-third : tie.Need-array-copy-out-third
-array-copy-out-third c = search needs
-
-array-copy-out-fourth : tie.Need-array-copy-out-fourth
-array-copy-out-fourth c = search needs
-
 add-t14 : tie.Need-add-t14
 add-t14 c = let q2 : Between (pos 0) (pos 100000000) (quarterAt (c .before .before .before .before .before .before .before .args .t2) 2 .0) = at (mmbtu (pos 0)) (c .before .before .before .before .before .before .before .pre .1) 2 (omega arith) in
     let q3 : Between (pos 0) (pos 100000000) (quarterAt (c .before .before .before .before .before .before .before .args .t2) 3 .0) = at (mmbtu (pos 0)) (c .before .before .before .before .before .before .before .pre .1) 3 (omega arith) in
@@ -53,9 +44,9 @@ pub year-of-spec : {M : Type 1} → statement M
 year-of-spec =
     tie.close
     (tie.spec
-    array-copy-out-second
-    array-copy-out-third
-    array-copy-out-fourth
+    (λ c. search needs)
+    (λ c. search needs)
+    (λ c. search needs)
     add-t14
     add-t15
     add-t16

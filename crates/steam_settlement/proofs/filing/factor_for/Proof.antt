@@ -14,12 +14,6 @@ use Rattle.steam_settlement.proofs.filing.factor_for.Tie as tie
 mul-round-div : tie.Need-mul-round-div
 mul-round-div c = fits64 (search bounds depth 30) tt
 
-round-div-requires : tie.Need-round-div-requires
-round-div-requires c κs = search needs
-
-factor-requires : tie.Need-factor-requires
-factor-requires c κs = search needs
-
 returns : tie.Need-returns
 unfolding factorFor
 returns c = let s = c .before .before .before .before .before .args in
@@ -27,4 +21,4 @@ returns c = let s = c .before .before .before .before .before .args in
     c .factor .ensures ∙ (λ i. points (narrowed (e i)))
 
 pub factor-for-spec : {M : Type 1} → statement M
-factor-for-spec = tie.close (tie.spec mul-round-div round-div-requires factor-requires returns)
+factor-for-spec = tie.close (tie.spec mul-round-div (λ c κs. search needs) (λ c κs. search needs) returns)
