@@ -28,16 +28,16 @@ field c = a-field _ (λ z. c .if1 .left (ap (ofZ w64) z))
 field-long : (c : tie.Else1) → length (bytesOf (c .before .before .args .number)) ≡ 8
 field-long c = ap length (field c) ∙ length-digits 256 8 _
 
-put-word-requires : tie.Need-put-word-requires
-put-word-requires c κs = omega (arith, c .before .before .before .before .pre, field-long (c .before .before))
+put-bits-requires : tie.Need-put-bits-requires
+put-bits-requires c κs = omega (arith, c .before .before .before .before .pre, field-long (c .before .before))
 
 returns-2 : tie.Need-returns-2
 returns-2 c =
     let s = c .before .before .before .before .before .before .before in
     let e = field (c .before .before .before .before .before) in
-    (omega (arith, field-long (c .before .before .before .before .before)), c .before .before .put-word .ensures ∙ ap (λ (n : ℕ). sets (now (s .args .buffer)) (s .args .at) (digits 256 8 n)) (c .before .before .before .bits-of .ensures ∙ ap bitsOf (toZ-ofZ (s .fits .number))) ∙ ap (sets (now (s .args .buffer)) (s .args .at)) (sym e))
+    (omega (arith, field-long (c .before .before .before .before .before)), c .before .before .put-bits .ensures ∙ ap (λ (n : ℕ). sets (now (s .args .buffer)) (s .args .at) (digits 256 8 n)) (c .before .before .before .bits-of .ensures ∙ ap bitsOf (toZ-ofZ (s .fits .number))) ∙ ap (sets (now (s .args .buffer)) (s .args .at)) (sym e))
 
 pub put-field-spec : {M : Type 1} → statement M
 put-field-spec =
     tie.close
-    (tie.spec returns (λ c κs. search needs) put-word-requires (λ c. search needs) (λ c. search needs) returns-2)
+    (tie.spec returns (λ c κs. search needs) put-bits-requires (λ c. search needs) (λ c. search needs) returns-2)

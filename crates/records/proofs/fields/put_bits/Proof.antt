@@ -1,4 +1,4 @@
--- `words::put_word` stores the 8 bytes of a number, in halves. Assumes nothing.
+-- `records::fields::put_bits` stores the 8 bytes of a number, in halves. Assumes nothing.
 use mathlib.Core.Path.{ap, _∙_}
 use mathlib.Core.List.{List}
 use Prim.Native.Nat.{ℕ, _+_}
@@ -6,14 +6,14 @@ use lib.Seq.{sets}
 use denote.Ref.{now}
 use borrow.Author.Needs.{needs}
 use Rattle.ints.specs.Digits.{digits}
-use Rattle.words.proofs.Halves.{stored-parts}
-use Rattle.words.proofs.put_word.Statement.{statement}
-use Rattle.words.proofs.put_word.Tie as tie
+use Rattle.records.proofs.FieldBytes.{stored-parts}
+use Rattle.records.proofs.fields.put_bits.Statement.{statement}
+use Rattle.records.proofs.fields.put_bits.Tie as tie
 
 returns : tie.Need-returns
 returns c = let s = c .before .before .before .before .before .before .before .before .before in
     c .before .before .put-quad2 .ensures ∙ ap (λ (l : List ℕ). sets l (s .args .at + 4) (digits 256 4 (s .args .n))) (c .before .before .before .before .before .before .put-quad .ensures) ∙ stored-parts (now (s .args .buffer)) (s .args .at) 4 4 (s .args .n)
 
-pub put-word-spec : {M : Type 1} → statement M
-put-word-spec =
+pub put-bits-spec : {M : Type 1} → statement M
+put-bits-spec =
     tie.close (tie.spec (λ c κs. search needs) (λ c. search needs) (λ c κs. search needs) (λ c. search needs) returns)

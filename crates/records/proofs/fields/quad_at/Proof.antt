@@ -1,13 +1,13 @@
--- `words::quad_at` is the number of 4 bytes. Assumes nothing.
+-- `records::fields::quad_at` is the number of 4 bytes. Assumes nothing.
 use mathlib.Core.Path.{_≡_, ap, _∙_}
 use Prim.Native.Nat.{ℕ, _+_, _≤_}
 use native.Mathlib.Omega.{arith}
 use lib.ListN.{length, getD}
 use denote.Ref.{now}
 use borrow.Author.Needs.{needs}
-use Rattle.words.proofs.Halves.{value-one, value-parts}
-use Rattle.words.proofs.quad_at.Statement.{statement}
-use Rattle.words.proofs.quad_at.Tie as tie
+use Rattle.records.proofs.FieldBytes.{value-one, value-parts}
+use Rattle.records.proofs.fields.quad_at.Statement.{statement}
+use Rattle.records.proofs.fields.quad_at.Tie as tie
 
 returns : tie.Need-returns
 returns c = let s = now (c .before .before .before .before .before .before .before .before .before .args .bytes) in

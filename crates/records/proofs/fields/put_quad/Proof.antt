@@ -1,4 +1,4 @@
--- `words::put_quad` stores the last 4 bytes of a number, in halves. Assumes nothing.
+-- `records::fields::put_quad` stores the last 4 bytes of a number, in halves. Assumes nothing.
 use mathlib.Core.Path.{ap, _∙_}
 use mathlib.Core.List.{List}
 use Prim.Native.Nat.{ℕ, _+_}
@@ -6,9 +6,9 @@ use lib.Seq.{sets}
 use denote.Ref.{now}
 use borrow.Author.Needs.{needs}
 use Rattle.ints.specs.Digits.{digits}
-use Rattle.words.proofs.Halves.{stored-parts}
-use Rattle.words.proofs.put_quad.Statement.{statement}
-use Rattle.words.proofs.put_quad.Tie as tie
+use Rattle.records.proofs.FieldBytes.{stored-parts}
+use Rattle.records.proofs.fields.put_quad.Statement.{statement}
+use Rattle.records.proofs.fields.put_quad.Tie as tie
 
 returns : tie.Need-returns
 returns c = let s = c .before .before .before .before .before .before .before .before .before in

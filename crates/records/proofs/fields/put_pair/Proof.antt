@@ -1,4 +1,4 @@
--- `words::put_pair` stores the last 2 bytes of a number. Assumes nothing.
+-- `records::fields::put_pair` stores the last 2 bytes of a number. Assumes nothing.
 use mathlib.Core.Path.{_≡_, ap}
 use Prim.Native.Nat.{ℕ, suc, _+_, _/_, _%_}
 use native.Mathlib.Omega.{arith}
@@ -6,8 +6,8 @@ use lib.ListN.{set, length-set}
 use denote.Ref.{now}
 use borrow.Author.Needs.{needs}
 use Rattle.ints.specs.Digits.{digits}
-use Rattle.words.proofs.put_pair.Statement.{statement}
-use Rattle.words.proofs.put_pair.Tie as tie
+use Rattle.records.proofs.fields.put_pair.Statement.{statement}
+use Rattle.records.proofs.fields.put_pair.Tie as tie
 
 slice-write-buffer-2 : tie.Need-slice-write-buffer-2
 slice-write-buffer-2 c = omega (arith, length-set (c .args .buffer .now) (c .args .at) (c .args .n / 256 % 256))

@@ -1,2 +1,0 @@
--- Laws over plain numbers and lists that the functions' proofs cite.
-pub mod Halves
