@@ -7,6 +7,8 @@ ghost use mathlib.Core.Path.{_≡_};
 ghost use Rattle.steam_rules.specs.Book.{refused};
 ghost use Rattle.steam_rules.specs.Refusals.{postOf};
 
+mod effects;
+
 fn refuse(book: SteamBook, number: u8) -> Posted
     ensures { λ r. ⌜ r ≡ refused book number ⌝ }
 {
@@ -24,7 +26,7 @@ pub fn post(book: SteamBook, posting: Posting) -> Posted
     if number != 0 {
         return refuse(book, number);
     }
-    let posted = steam_effects::effect(book, posting);
+    let posted = effects::effect(book, posting);
     if !steam_limits::in_limits(posted.book) {
         return refuse(book, 12);
     }

@@ -9,8 +9,8 @@ use Rattle.electric_rules.specs.declared.Posted.{Posted}
 use Rattle.electric_rules.specs.Refusals.{rowsBefore, postOf}
 use Rattle.electric_rules.specs.Next.{nextOf, answerOf}
 use Rattle.electric_rules.specs.Ranges.{book-within}
-use Rattle.electric_effects.specs.Stored.{storedOr12}
 use Rattle.electric.proofs.post.Statement.{statement}
+use Rattle.electric.specs.Stored.{storedOr12}
 use Rattle.riders.specs.Posts as posts
 use Rattle.electric.proofs.post.Tie as tie
 

@@ -9,8 +9,8 @@ use Rattle.steam_rules.specs.declared.Posted.{Posted}
 use Rattle.steam_rules.specs.Refusals.{rowsBefore, postOf}
 use Rattle.steam_rules.specs.Next.{nextOf, answerOf}
 use Rattle.steam_rules.specs.Ranges.{book-within}
-use Rattle.steam_effects.specs.Stored.{storedOr12}
 use Rattle.steam.proofs.post.Statement.{statement}
+use Rattle.steam.specs.Stored.{storedOr12}
 use Rattle.riders.specs.Posts as posts
 use Rattle.steam.proofs.post.Tie as tie
 

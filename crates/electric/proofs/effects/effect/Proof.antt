@@ -1,0 +1,77 @@
+-- `effects::effect` is the effect of the posting's kind, each arm that of its own. Assumes nothing.
+use mathlib.Core.Path.{_≡_, ap}
+use Rattle.postings.specs.Kinds.{kindOf}
+use Rattle.postings.specs.Ranged.{ranged-as}
+use Rattle.postings.specs.declared.Book.the-variants.{Electric}
+use Rattle.electric.proofs.ByKind.{stored-as-kind, is-adjustment}
+use Rattle.electric.proofs.effects.effect.Statement.{statement}
+use Rattle.electric.specs.Stored.{storedOr12}
+use Rattle.electric.proofs.effects.effect.Tie as tie
+
+six : (c : tie.At-match-rest) → c .before .args .posting .kind ≡ 6
+six c = let r = c .match .rest in is-adjustment _ (c .before .pre .2) (r .0 .0 .0 .0 .1) (r .0 .0 .0 .1) (r .0 .0 .1) (r .0 .1) (r .1)
+
+post-cost-requires : tie.Need-post-cost-requires
+unfolding kindOf
+post-cost-requires c κs = (c .before .pre .0, ranged-as Electric (c .before .args .posting) (c .match .keys1) (c .before .pre .1))
+
+post-sales-requires : tie.Need-post-sales-requires
+unfolding kindOf
+post-sales-requires c κs = (c .before .pre .0, ranged-as Electric (c .before .args .posting) (c .match .keys2) (c .before .pre .1))
+
+post-bill-requires : tie.Need-post-bill-requires
+unfolding kindOf
+post-bill-requires c κs = (c .before .pre .0, ranged-as Electric (c .before .args .posting) (c .match .keys3) (c .before .pre .1))
+
+post-settlement-requires : tie.Need-post-settlement-requires
+unfolding kindOf
+post-settlement-requires c κs = (c .before .pre .0, ranged-as Electric (c .before .args .posting) (c .match .keys4) (c .before .pre .1))
+
+post-month-end-requires : tie.Need-post-month-end-requires
+unfolding kindOf
+post-month-end-requires c κs = (c .before .pre .0, ranged-as Electric (c .before .args .posting) (c .match .keys5) (c .before .pre .1))
+
+post-adjustment-requires : tie.Need-post-adjustment-requires
+unfolding kindOf
+post-adjustment-requires c κs = (c .before .pre .0, ranged-as Electric (c .before .args .posting) (six c) (c .before .pre .1))
+
+returns : tie.Need-returns
+unfolding kindOf
+returns c = stored-as-kind (c .before .before .args .posting) (c .before .match .keys1) (c .before .before .args .book) _ (ap (storedOr12 (c .before .before .args .book)) (c .post-cost .ensures))
+
+returns-2 : tie.Need-returns-2
+unfolding kindOf
+returns-2 c = stored-as-kind (c .before .before .args .posting) (c .before .match .keys2) (c .before .before .args .book) _ (ap (storedOr12 (c .before .before .args .book)) (c .post-sales .ensures))
+
+returns-3 : tie.Need-returns-3
+unfolding kindOf
+returns-3 c = stored-as-kind (c .before .before .args .posting) (c .before .match .keys3) (c .before .before .args .book) _ (ap (storedOr12 (c .before .before .args .book)) (c .post-bill .ensures))
+
+returns-4 : tie.Need-returns-4
+unfolding kindOf
+returns-4 c = stored-as-kind (c .before .before .args .posting) (c .before .match .keys4) (c .before .before .args .book) _ (c .post-settlement .ensures)
+
+returns-5 : tie.Need-returns-5
+unfolding kindOf
+returns-5 c = stored-as-kind (c .before .before .args .posting) (c .before .match .keys5) (c .before .before .args .book) _ (ap (storedOr12 (c .before .before .args .book)) (c .post-month-end .ensures))
+
+returns-6 : tie.Need-returns-6
+unfolding kindOf
+returns-6 c = stored-as-kind (c .before .before .args .posting) (six (c .before)) (c .before .before .args .book) _ (ap (storedOr12 (c .before .before .args .book)) (c .post-adjustment .ensures))
+
+pub effect-spec : {M : Type 1} → statement M
+effect-spec =
+    tie.close
+    (tie.spec
+    post-cost-requires
+    post-sales-requires
+    post-bill-requires
+    post-settlement-requires
+    post-month-end-requires
+    post-adjustment-requires
+    returns
+    returns-2
+    returns-3
+    returns-4
+    returns-5
+    returns-6)
