@@ -145,7 +145,12 @@ impl<'a> Writer<'a> {
             };
             *cents = -cents.saturating_abs();
         }
-        let may_be_bare = matches!(posting.kind, COST | SALES | BILL | MONTH_END);
+        // A period in which nothing is sold cannot be settled.
+        let may_be_bare = match posting.kind {
+            COST | BILL | MONTH_END => true,
+            SALES => self.random.coin(),
+            _ => false,
+        };
         if may_be_bare && self.random.below(8) < self.plan.bare {
             posting.numbers = [0; 3];
         }

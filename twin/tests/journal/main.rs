@@ -4,10 +4,13 @@
 
 mod answers;
 mod buffers;
+mod endings;
 mod flaws;
 mod listed;
 mod met;
+mod openings;
 mod plain;
 mod random_journals;
 mod sides;
+mod written;
 mod wrong_journals;
