@@ -33,7 +33,10 @@ fn compare_from(first: u64, count: u64) -> ExitCode {
         match compare(PROVED, &journal) {
             Ok(text) => lines += text.iter().filter(|&&byte| byte == b'\n').count(),
             Err(difference) => {
-                println!("seed {seed}\n{difference}\njournal:\n{}", to_lines(&journal));
+                println!(
+                    "seed {seed}\n{difference}\njournal:\n{}",
+                    to_lines(&journal)
+                );
                 return ExitCode::FAILURE;
             }
         }

@@ -1,8 +1,7 @@
 //! Journals written to buffers of every length, with what is in them and around them.
 
-use crate::sides::{printed, SIDE};
-use twin::comparison::{room, Side};
-use twin::generate::journals::Journal;
+use crate::sides::printed_of_seed;
+use twin::comparison::{room, Side, PROVED};
 use twin::journal;
 use twin::random::Random;
 use twin::written::{Written, BUFFER_TOO_SHORT};
@@ -64,10 +63,9 @@ fn compare_in_buffers(
 ) -> usize {
     let mut refused = 0;
     for seed in seeds {
-        let input = Journal::of_seed(seed).bytes;
-        let text = printed(&input, &format!("seed {seed}"));
+        let (input, text) = printed_of_seed(seed);
         if wanted(&text) {
-            let met = in_buffers(SIDE, &input, &text, seed);
+            let met = in_buffers(PROVED, &input, &text, seed);
             refused += met.unwrap_or_else(|failure| panic!("{failure}, seed {seed}"));
         }
     }

@@ -5,6 +5,7 @@
 mod answers;
 mod buffers;
 mod endings;
+mod examples;
 mod flaws;
 mod listed;
 mod met;

@@ -1,17 +1,29 @@
 //! Random journals, short and long, whole and damaged.
 
+use crate::flaws::Flaw;
 use crate::met::{Met, BOOKS};
+use crate::plain;
 use crate::sides::printed_of_seed;
 use std::thread;
 
 const JOURNALS: u64 = 24_000;
 const THREADS: u64 = 2;
 
+/// Of so many journals one is printed by the plain program too, which is slow.
+const PLAIN: u64 = 11;
+
 /// What every so-manieth journal from the first on has.
 fn run(first: u64) -> Met {
     let mut met = Met::default();
     for seed in (first..=JOURNALS).step_by(THREADS as usize) {
         let (input, text) = printed_of_seed(seed);
+        if seed % PLAIN == 0 {
+            let plain = plain::printed(&input, Flaw::Nothing);
+            assert!(
+                plain.as_bytes() == text,
+                "plain program and both sides, seed {seed}"
+            );
+        }
         met.count(&input, &text, &format!("seed {seed}"));
     }
     met

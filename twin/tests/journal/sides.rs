@@ -2,20 +2,15 @@
 
 use crate::flaws::Flaw;
 use crate::plain;
-use twin::comparison::{compare, Side};
+use journal_lines::to_lines;
+use twin::comparison::{compare, PROVED};
 use twin::generate::journals::Journal;
-
-/// The plain journal program without a flaw.
-pub const SIDE: Side = Side {
-    write: &|input, buffer| plain::write(input, buffer, Flaw::Nothing),
-    length: &|input| plain::length(input, Flaw::Nothing),
-};
 
 /// What both sides print for the input.
 pub fn printed(input: &[u8], origin: &str) -> Vec<u8> {
-    match compare(SIDE, input) {
+    match compare(PROVED, input) {
         Ok(text) => text,
-        Err(difference) => panic!("{difference}\n{origin}\n{}", readable(input)),
+        Err(difference) => panic!("{difference}\n{origin}\n{}", to_lines(input)),
     }
 }
 
@@ -26,18 +21,14 @@ pub fn printed_of_seed(seed: u64) -> (Vec<u8>, Vec<u8>) {
     (input, text)
 }
 
-fn readable(input: &[u8]) -> String {
-    format!("{input:02x?}")
-}
-
 /// A listed journal, which both sides and the plain program must print the text for.
 pub fn expect(text: &str, input: &[u8]) {
     let met = printed(input, "a listed journal");
-    assert_eq!(String::from_utf8_lossy(&met), text, "{}", readable(input));
+    assert_eq!(String::from_utf8_lossy(&met), text, "{}", to_lines(input));
     assert_eq!(
         plain::printed(input, Flaw::Nothing),
         text,
         "{}",
-        readable(input)
+        to_lines(input)
     );
 }
