@@ -1,9 +1,13 @@
-//! What printed journals have, line by line, with the form that the paper gives each line.
+//! What printed journals have, line by line.
 
+use crate::form::Answer;
 use twin::comparison::room;
 
 /// The books by the first byte of a journal.
 pub const BOOKS: [&str; 3] = ["L&P", "MPS", "steam"];
+
+/// Credits, credits of less than a dollar, and the largest factors.
+pub const AMOUNTS: [&str; 4] = [" -", " -0.", " 9.9999", " -9.9999"];
 
 /// What the lines of a book's journals have.
 #[derive(Clone, Copy, Debug, Default)]
@@ -15,6 +19,8 @@ pub struct OfBook {
     pub refused: [usize; 14],
     /// Answers that are no refusals, by kind.
     pub answered: [usize; 8],
+    /// Lines with an amount of each of these beginnings.
+    pub amounts: [usize; AMOUNTS.len()],
     /// The most records and the most month ends of one journal.
     pub most_records: usize,
     pub most_months: usize,
@@ -51,7 +57,7 @@ impl Met {
             let rest = line.strip_prefix(&format!("{records} "));
             let answer = rest.and_then(|rest| Answer::of(rest, steam));
             let answer = answer.unwrap_or_else(|| panic!("{line:?} as {records}, {origin}"));
-            book.count(answer);
+            book.count(answer, line);
             months += usize::from(answer == Answer::Given(5));
             unread = matches!(answer, Answer::Unread(_));
         }
@@ -67,6 +73,7 @@ impl Met {
             sum_up(&mut book.unread, &other.unread);
             sum_up(&mut book.refused, &other.refused);
             sum_up(&mut book.answered, &other.answered);
+            sum_up(&mut book.amounts, &other.amounts);
             book.most_records = book.most_records.max(other.most_records);
             book.most_months = book.most_months.max(other.most_months);
         }
@@ -87,11 +94,16 @@ impl Met {
 }
 
 impl OfBook {
-    fn count(&mut self, answer: Answer) {
+    fn count(&mut self, answer: Answer, line: &str) {
         match answer {
             Answer::Unread(number) => self.unread[number] += 1,
             Answer::Refused(number) => self.refused[number] += 1,
-            Answer::Given(kind) => self.answered[kind] += 1,
+            Answer::Given(kind) => {
+                self.answered[kind] += 1;
+                for (count, amount) in self.amounts.iter_mut().zip(AMOUNTS) {
+                    *count += usize::from(line.contains(amount));
+                }
+            }
         }
     }
 }
@@ -106,60 +118,4 @@ fn sum_up(sums: &mut [usize], counts: &[usize]) {
 fn refused_opening(text: &str) -> Option<usize> {
     let number = text.strip_prefix("refused ")?.strip_suffix('\n')?;
     number.parse().ok()
-}
-
-/// What a record is answered.
-#[derive(Clone, Copy, Debug, PartialEq, Eq)]
-enum Answer {
-    Unread(usize),
-    Refused(usize),
-    /// The answer that the kind has.
-    Given(usize),
-}
-
-impl Answer {
-    /// The answer of a line after its number, if it has the paper's form.
-    fn of(rest: &str, steam: bool) -> Option<Self> {
-        let mut fields = rest.split(' ');
-        let kind = fields.next()?.parse().ok()?;
-        let word = fields.next()?;
-        let amounts: Vec<&str> = fields.collect();
-        match (kind, word, &amounts[..]) {
-            (0, "refused", [number]) => Some(Answer::Unread(number.parse().ok()?)),
-            (1..=7, "refused", [number]) => Some(Answer::Refused(number.parse().ok()?)),
-            _ => is_answer(kind, word, &amounts, steam).then_some(Answer::Given(kind)),
-        }
-    }
-}
-
-/// Whether the book answers an accepted posting of the kind so.
-fn is_answer(kind: usize, word: &str, amounts: &[&str], steam: bool) -> bool {
-    match (kind, word, amounts) {
-        (3, "line", [cents]) => is_amount(cents, 2),
-        (4, "filed", [factor]) => steam && is_amount(factor, 4),
-        (4, "filed", [secondary, primary]) => {
-            !steam && is_amount(secondary, 4) && is_amount(primary, 4)
-        }
-        (5, "interest", [secondary, primary]) => {
-            !steam && is_amount(secondary, 2) && is_amount(primary, 2)
-        }
-        (1 | 2 | 6, "done", []) => true,
-        (5 | 7, "done", []) => steam,
-        _ => false,
-    }
-}
-
-/// A minus only below zero, no leading zeros, a point, and so many digits after it.
-fn is_amount(text: &str, digits: usize) -> bool {
-    let size = text.strip_prefix('-').unwrap_or(text);
-    let Some((whole, part)) = size.split_once('.') else {
-        return false;
-    };
-    let all_digits = |text: &str| text.bytes().all(|byte| byte.is_ascii_digit());
-    let zero = size.bytes().all(|byte| byte == b'0' || byte == b'.');
-    all_digits(whole)
-        && all_digits(part)
-        && part.len() == digits
-        && (whole == "0" || (!whole.is_empty() && !whole.starts_with('0')))
-        && !(zero && size.len() < text.len())
 }

@@ -67,6 +67,7 @@ fn random_journals_agree() {
         has_numbers(name, &book.unread, 20, &[1, 2, 3, 4, 5]);
         has_numbers(name, &book.refused, 500, refused);
         has_numbers(name, &book.answered, 1_000, kinds);
+        has_numbers(name, &book.amounts, 100, &[0, 1, 2, 3]);
         assert!(book.journals > 4_000, "{name}: {}", book.journals);
         // Numbers of five digits, and decades of months.
         assert!(book.most_records > 10_000, "{name}: {book:?}");
