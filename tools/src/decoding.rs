@@ -1,7 +1,6 @@
 //! Bytes to lines.
 
-use std::fmt;
-
+use crate::damage::Damage;
 use crate::vocabulary::{
     Book, Field, Kind, BYTES, DIVISIONS, FIELD_LENGTH, HEAD_LENGTH, LONGEST_JOURNAL, QUARTERS,
     STEAM_OPENING, STEAM_OPENING_LENGTH,
@@ -46,63 +45,6 @@ fn length_comment(length: usize) -> Option<String> {
 fn raw_line(bytes: &[u8]) -> String {
     let pairs = bytes.iter().map(|byte| format!(" {byte:02X}"));
     [BYTES.to_string()].into_iter().chain(pairs).collect()
-}
-
-/// Why bytes are no opening or record; each has the paper's number of the refusal.
-#[derive(Clone, Copy, Debug, PartialEq, Eq)]
-enum Damage {
-    UnknownOpening(u8),
-    OpeningCut { remain: usize },
-    HeadCut,
-    UnknownKind { book: Book, kind: u8 },
-    StrayBit { word: &'static str, bit_map: u8 },
-    RecordCut { length: usize, remain: usize },
-    FieldOfZero { field: Field },
-}
-
-impl fmt::Display for Damage {
-    fn fmt(&self, formatter: &mut fmt::Formatter<'_>) -> fmt::Result {
-        match *self {
-            Damage::UnknownOpening(byte) => {
-                write!(formatter, "{byte:02X} opens no book (refused 7)")
-            }
-            Damage::OpeningCut { remain } => {
-                write!(formatter, "a steam opening has {STEAM_OPENING_LENGTH} bytes, {remain} are here (refused 7)")
-            }
-            Damage::HeadCut => {
-                write!(
-                    formatter,
-                    "a record has {HEAD_LENGTH} bytes at least, 1 is here (refused 1)"
-                )
-            }
-            Damage::UnknownKind { book, kind } => {
-                write!(
-                    formatter,
-                    "the {} book has no kind {kind} (refused 2)",
-                    book.name()
-                )
-            }
-            Damage::StrayBit { word, bit_map } => {
-                write!(
-                    formatter,
-                    "bit map {bit_map:02X} has a bit that {word} lacks (refused 3)"
-                )
-            }
-            Damage::RecordCut { length, remain } => {
-                write!(
-                    formatter,
-                    "the record has {length} bytes, {remain} are here (refused 4)"
-                )
-            }
-            Damage::FieldOfZero { field } => {
-                write!(
-                    formatter,
-                    "{} is written though it is 0 (refused 5)",
-                    field.name()
-                )
-            }
-        }
-    }
 }
 
 /// The line of the opening or record at the place, and how many bytes it stands for.

@@ -11,7 +11,7 @@
 //! month-end 60000                       r in millionths       steam: month-end
 //! adjust secondary -1500                level and cents       steam: adjust 100001 1000000, n and g
 //! reconcile 12 40000                    of steam alone: months and D
-//! bytes 04 03 00                        any bytes, anywhere
+//! bytes 04 03 0000000000000001          any bytes, anywhere, in pairs of hexadecimal digits
 //! # a comment, up to the end of its line
 //! ```
 //!
@@ -30,6 +30,7 @@
 
 #![forbid(unsafe_code)]
 
+mod damage;
 mod decoding;
 mod encoding;
 mod errors;

@@ -1,4 +1,4 @@
-//! The words of lines beside the numbers of journals: openings, kinds and their fields, as document 01 has them.
+//! The words of lines beside the numbers of journals: openings, kinds and fields, as in document 01.
 
 use Field::{Level, Number};
 
