@@ -13,6 +13,7 @@ mod made;
 mod met;
 mod openings;
 mod plain;
+mod program;
 mod random_journals;
 mod sides;
 mod written;
