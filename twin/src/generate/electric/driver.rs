@@ -1,14 +1,14 @@
 //! Postings for long histories: most are accepted, and some drive a value to a limit.
 
-use crate::fields::{field, Size};
-use crate::postings::{
+use super::postings::{
     adjust, bill, costs, month_end, posting_of, ranges, sales, settle, spoiled, KINDS,
 };
-use crate::stored::{CENTS, KWH};
-use twin::calendar::{AUGUST, DECEMBER, FEBRUARY, JUNE};
-use twin::electric::{is_settling, share, ElectricBook, Level, Open};
-use twin::random::Random;
-use twin::records::{Posting, ADJUST, BILL, COST, MONTH_END, SALES, SETTLE};
+use crate::amounts::CENTS_LIMIT as CENTS;
+use crate::calendar::{AUGUST, DECEMBER, FEBRUARY, JUNE};
+use crate::electric::{is_settling, share, ElectricBook, Level, Open, KWH_LIMIT as KWH};
+use crate::generate::fields::{field, Size};
+use crate::random::Random;
+use crate::records::{Posting, ADJUST, BILL, COST, MONTH_END, SALES, SETTLE};
 
 /// The value that postings of a month drive to its limit; a number is a level's.
 #[derive(Clone, Copy, Debug, PartialEq, Eq)]

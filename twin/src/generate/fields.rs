@@ -1,6 +1,6 @@
 //! Random fields of postings, within their ranges and outside.
 
-use twin::random::Random;
+use crate::random::Random;
 
 /// The lowest and the highest value of a field.
 pub type Range = (i64, i64);

@@ -1,13 +1,15 @@
 //! Postings for long histories: most are accepted, and some drive a value to a limit.
 
-use crate::fields::{field, Size};
-use crate::postings::{
+use super::postings::{
     adjust, bill, cost, month_end, posting_of, ranges, reconcile, sales, settle, spoiled, KINDS,
 };
-use crate::stored::{CENTS, SALES as SALES_MOST};
-use twin::random::Random;
-use twin::records::{Posting, ADJUST, BILL, COST, RECONCILE, SALES, SETTLE};
-use twin::steam::{annual_sales, entering, is_settling, share, Open, SteamBook};
+use crate::amounts::CENTS_LIMIT as CENTS;
+use crate::generate::fields::{field, Size};
+use crate::random::Random;
+use crate::records::{Posting, ADJUST, BILL, COST, RECONCILE, SALES, SETTLE};
+use crate::steam::{
+    annual_sales, entering, is_settling, share, Open, SteamBook, SALES_LIMIT as SALES_MOST,
+};
 
 /// The value that postings of a month drive to its limit.
 #[derive(Clone, Copy, Debug, PartialEq, Eq)]

@@ -1,8 +1,8 @@
 //! Postings by the paper's table, apart from both sides.
 
-use crate::fields::{beyond, field, Range, Size};
-use twin::random::Random;
-use twin::records::{Posting, ADJUST, BILL, COST, MONTH_END, SALES, SETTLE};
+use crate::generate::fields::{beyond, field, Range, Size};
+use crate::random::Random;
+use crate::records::{Posting, ADJUST, BILL, COST, MONTH_END, SALES, SETTLE};
 
 pub const KINDS: [u8; 6] = [COST, SALES, BILL, SETTLE, MONTH_END, ADJUST];
 
