@@ -5,10 +5,7 @@ use crate::electric_postings::SECONDARY;
 use crate::report;
 use crate::report::Tally;
 use crate::steam_postings;
-use amounts::Cents;
-use amounts::Points;
 use electric_rules::ElectricBook;
-use postings::Answer;
 use steam_rules::SteamBook;
 
 pub(crate) fn check(tally: Tally) -> Tally {
@@ -35,11 +32,12 @@ fn electric(tally: Tally) -> Tally {
         800_000,
     );
     let answer = filed.answer;
-    let tally = report::answer(
+    let tally = report::filed_levels(
         tally,
         b"Handover, electric, factors filed",
         answer,
-        Answer::FiledLevels(Points(9), Points(9)),
+        b"0.0009",
+        b"0.0009",
     );
     let book = billed(electric_postings::past_february(filed.book));
     let tally = electric_due(tally, book);
@@ -60,13 +58,13 @@ fn electric_due(tally: Tally, book: ElectricBook) -> Tally {
         tally,
         b"Handover, electric, still due secondary",
         book.secondary.first.due,
-        Cents(25_513),
+        b"255.13",
     );
     report::cents(
         tally,
         b"Handover, electric, still due primary",
         book.primary.first.due,
-        Cents(3_437),
+        b"34.37",
     )
 }
 
@@ -83,19 +81,19 @@ fn electric_carried(tally: Tally, book: ElectricBook) -> Tally {
         tally,
         b"Handover, electric, carried secondary",
         book.secondary.carried,
-        Cents(25_513),
+        b"255.13",
     );
     let tally = report::cents(
         tally,
         b"Handover, electric, carried primary",
         book.primary.carried,
-        Cents(3_437),
+        b"34.37",
     );
     report::cents(
         tally,
         b"Handover, electric, due under the next run 1",
         book.secondary.first.due,
-        Cents(0),
+        b"0.00",
     )
 }
 
@@ -104,24 +102,25 @@ fn electric_filed(tally: Tally, book: ElectricBook) -> Tally {
     let may = electric_postings::two_months(half_year_at_base(book));
     let filed = electric_postings::settle(may, 1_250_000, 800_000);
     let answer = filed.answer;
-    let tally = report::answer(
+    let tally = report::filed_levels(
         tally,
         b"Handover, electric, factors filed for what was carried",
         answer,
-        Answer::FiledLevels(Points(2), Points(0)),
+        b"0.0002",
+        b"0.0000",
     );
     let book = filed.book;
     let tally = report::cents(
         tally,
         b"Handover, electric, pending secondary",
         book.secondary.pending.due,
-        Cents(25_513),
+        b"255.13",
     );
     report::cents(
         tally,
         b"Handover, electric, pending primary",
         book.primary.pending.due,
-        Cents(3_437),
+        b"34.37",
     )
 }
 
@@ -145,12 +144,7 @@ fn steam(tally: Tally) -> Tally {
     let book = steam_postings::sales(steam_postings::cost(october, 3_700_000), 10_000);
     let filed = steam_postings::settle(steam_postings::to_last_month(book));
     let answer = filed.answer;
-    let tally = report::answer(
-        tally,
-        b"Handover, steam, factor filed",
-        answer,
-        Answer::Filed(Points(1_390)),
-    );
+    let tally = report::filed(tally, b"Handover, steam, factor filed", answer, b"0.1390");
     let billed = steam_postings::bill(steam_postings::past_entry(filed.book), 30_000);
     let tally = steam_due(tally, billed.book);
     let april = closed(quarter_at_base(billed.book));
@@ -165,22 +159,17 @@ fn steam_due(tally: Tally, book: SteamBook) -> Tally {
         tally,
         b"Handover, steam, still due",
         book.dues[0],
-        Cents(139_000),
+        b"1390.00",
     )
 }
 
 fn steam_carried(tally: Tally, book: SteamBook) -> Tally {
-    let tally = report::cents(
-        tally,
-        b"Handover, steam, carried",
-        book.carried,
-        Cents(139_000),
-    );
+    let tally = report::cents(tally, b"Handover, steam, carried", book.carried, b"1390.00");
     report::cents(
         tally,
         b"Handover, steam, due under the next run 1",
         book.dues[0],
-        Cents(0),
+        b"0.00",
     )
 }
 
@@ -191,14 +180,14 @@ fn steam_reconciled(tally: Tally, book: SteamBook) -> Tally {
         tally,
         b"Handover, steam, due under the reconciliation",
         reconciled.reconciliation.run.due,
-        Cents(139_000),
+        b"1390.00",
     );
     let billed = steam_postings::bill(reconciled, 10);
     let answer = billed.answer;
-    report::answer(
+    report::line(
         tally,
         b"Handover, steam, ten mmBtu under it",
         answer,
-        Answer::Line(Cents(35)),
+        b"0.35",
     )
 }

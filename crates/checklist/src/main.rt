@@ -10,6 +10,7 @@ mod report;
 mod sign;
 mod steam_fields;
 mod steam_postings;
+mod texts;
 
 fn main() {
     let tally = sign::check(report::none());

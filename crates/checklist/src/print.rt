@@ -1,4 +1,5 @@
 // Texts, amounts and answers on standard output, in the ledger's own text.
+use crate::texts;
 use amounts::Cents;
 use amounts::Points;
 use libc::STDOUT_FILENO;
@@ -15,25 +16,18 @@ pub(crate) fn number(number: i64) {
     io::print_decimal(STDOUT_FILENO, ints::size(number));
 }
 
-// The bytes of the buffer that a writer has filled.
-fn front(buffer: &[u8], length: usize) {
-    if length <= buffer.len() {
-        text(&buffer[..length]);
-    }
-}
-
 pub(crate) fn cents(amount: Cents) {
     let mut buffer = [0u8; 24];
     let written = amount.write(&mut buffer);
-    let length = written.length;
-    front(&buffer, length);
+    let length = texts::filled(written, &buffer);
+    text(&buffer[..length]);
 }
 
 pub(crate) fn points(factor: Points) {
     let mut buffer = [0u8; 24];
     let written = factor.write(&mut buffer);
-    let length = written.length;
-    front(&buffer, length);
+    let length = texts::filled(written, &buffer);
+    text(&buffer[..length]);
 }
 
 // An answer as the journal prints it.

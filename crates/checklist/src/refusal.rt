@@ -6,10 +6,8 @@ use crate::report;
 use crate::report::Tally;
 use crate::steam_fields;
 use crate::steam_postings;
-use amounts::Cents;
 use electric_rules::ElectricBook;
 use electric_rules::Posted;
-use postings::Answer;
 use steam_rules::SteamBook;
 
 pub(crate) fn check(tally: Tally) -> Tally {
@@ -22,12 +20,7 @@ fn electric(tally: Tally) -> Tally {
     let june = electric_postings::sales(book, 600_000, 400_000);
     let refused = electric_postings::settle(june, 1_250_000, 800_000);
     let answer = refused.answer;
-    let tally = report::answer(
-        tally,
-        b"Refusal, electric, settlement in June",
-        answer,
-        Answer::Refused(8),
-    );
+    let tally = report::refused(tally, b"Refusal, electric, settlement in June", answer, 8);
     let tally = report::number(
         tally,
         b"Refusal, electric, fields that differ after it, of 23",
@@ -42,11 +35,11 @@ fn electric_on(tally: Tally, without: ElectricBook, with: ElectricBook) -> Tally
     let plain = onwards(without);
     let after = onwards(with);
     let answer = after.answer;
-    let tally = report::answer(
+    let tally = report::line(
         tally,
         b"Refusal, electric, a bill of ten kWh later on",
         answer,
-        Answer::Line(Cents(1)),
+        b"0.01",
     );
     let tally = report::number(
         tally,
@@ -76,12 +69,7 @@ fn steam(tally: Tally) -> Tally {
     let january = steam_postings::sales(book, 10_000);
     let refused = steam_postings::settle(january);
     let answer = refused.answer;
-    let tally = report::answer(
-        tally,
-        b"Refusal, steam, settlement in January",
-        answer,
-        Answer::Refused(8),
-    );
+    let tally = report::refused(tally, b"Refusal, steam, settlement in January", answer, 8);
     let tally = report::number(
         tally,
         b"Refusal, steam, fields that differ after it, of 23",
@@ -96,11 +84,11 @@ fn steam_on(tally: Tally, without: SteamBook, with: SteamBook) -> Tally {
     let plain = quarters_on(without);
     let after = quarters_on(with);
     let answer = after.answer;
-    let tally = report::answer(
+    let tally = report::line(
         tally,
         b"Refusal, steam, a bill of ten mmBtu later on",
         answer,
-        Answer::Line(Cents(139)),
+        b"1.39",
     );
     let tally = report::number(
         tally,

@@ -3,7 +3,6 @@ use crate::electric_postings;
 use crate::report;
 use crate::report::Tally;
 use crate::steam_postings;
-use amounts::Cents;
 use electric_rules::ElectricBook;
 use steam_rules::SteamBook;
 
@@ -32,7 +31,7 @@ fn first_period(tally: Tally, book: ElectricBook) -> Tally {
         tally,
         b"Rounding, electric, first period's share",
         book.secondary.pending.due,
-        Cents(1),
+        b"0.01",
     );
     report::number(
         tally,
@@ -48,7 +47,7 @@ fn second_period(tally: Tally, book: ElectricBook) -> Tally {
         tally,
         b"Rounding, electric, second period's share",
         book.secondary.pending.due,
-        Cents(0),
+        b"0.00",
     );
     let tally = report::number(
         tally,
@@ -60,7 +59,7 @@ fn second_period(tally: Tally, book: ElectricBook) -> Tally {
         tally,
         b"Rounding, electric, first period's share in its run",
         book.secondary.first.due,
-        Cents(1),
+        b"0.01",
     )
 }
 
@@ -85,7 +84,7 @@ fn first_quarter(tally: Tally, book: SteamBook) -> Tally {
         tally,
         b"Rounding, steam, first quarter's share",
         book.pending.due,
-        Cents(0),
+        b"0.00",
     );
     report::number(
         tally,
@@ -101,7 +100,7 @@ fn second_quarter(tally: Tally, book: SteamBook) -> Tally {
         tally,
         b"Rounding, steam, second quarter's share",
         book.pending.due,
-        Cents(1),
+        b"0.01",
     );
     report::number(
         tally,

@@ -1,5 +1,6 @@
 // A line for each fact, with what was seen and what it should be, and the count of them.
 use crate::print;
+use crate::texts;
 use amounts::Cents;
 use postings::Answer;
 
@@ -38,21 +39,28 @@ fn begin(right: bool, what: &[u8]) {
     print::text(b": ");
 }
 
-fn should_be() {
+fn end(word: &[u8], text: &[u8]) {
     print::text(b", should be ");
-}
-
-fn end() {
+    print::text(word);
+    print::text(text);
     print::text(b"\n");
 }
 
-pub(crate) fn cents(tally: Tally, what: &[u8], seen: Cents, expected: Cents) -> Tally {
-    let right = seen.0 == expected.0;
+fn end_levels(word: &[u8], secondary: &[u8], primary: &[u8]) {
+    print::text(b", should be ");
+    print::text(word);
+    print::text(secondary);
+    print::text(b" ");
+    print::text(primary);
+    print::text(b"\n");
+}
+
+// Cents that a book holds.
+pub(crate) fn cents(tally: Tally, what: &[u8], seen: Cents, text: &[u8]) -> Tally {
+    let right = texts::cents_read(seen, text);
     begin(right, what);
     print::cents(seen);
-    should_be();
-    print::cents(expected);
-    end();
+    end(b"", text);
     counted(tally, right)
 }
 
@@ -60,51 +68,88 @@ pub(crate) fn number(tally: Tally, what: &[u8], seen: i64, expected: i64) -> Tal
     let right = seen == expected;
     begin(right, what);
     print::number(seen);
-    should_be();
+    print::text(b", should be ");
     print::number(expected);
-    end();
+    print::text(b"\n");
     counted(tally, right)
 }
 
-pub(crate) fn answer(tally: Tally, what: &[u8], seen: Answer, expected: Answer) -> Tally {
-    let right = same(seen, expected);
+// A bill's line.
+pub(crate) fn line(tally: Tally, what: &[u8], seen: Answer, text: &[u8]) -> Tally {
+    let right = match seen {
+        Answer::Line(line) => texts::cents_read(line, text),
+        _ => false,
+    };
     begin(right, what);
     print::answer(seen);
-    should_be();
-    print::answer(expected);
-    end();
+    end(b"line ", text);
     counted(tally, right)
 }
 
-fn same(seen: Answer, expected: Answer) -> bool {
-    match seen {
-        Answer::Line(line) => match expected {
-            Answer::Line(cents) => line.0 == cents.0,
-            _ => false,
-        },
-        Answer::FiledLevels(secondary, primary) => match expected {
-            Answer::FiledLevels(first, second) => {
-                (secondary.0 == first.0) & (primary.0 == second.0)
-            }
-            _ => false,
-        },
-        Answer::Filed(factor) => match expected {
-            Answer::Filed(filed) => factor.0 == filed.0,
-            _ => false,
-        },
-        Answer::Interest(secondary, primary) => match expected {
-            Answer::Interest(first, second) => (secondary.0 == first.0) & (primary.0 == second.0),
-            _ => false,
-        },
-        Answer::Done => match expected {
-            Answer::Done => true,
-            _ => false,
-        },
-        Answer::Refused(number) => match expected {
-            Answer::Refused(refusal) => number == refusal,
-            _ => false,
-        },
-    }
+// The factor that a steam settlement files.
+pub(crate) fn filed(tally: Tally, what: &[u8], seen: Answer, text: &[u8]) -> Tally {
+    let right = match seen {
+        Answer::Filed(factor) => texts::points_read(factor, text),
+        _ => false,
+    };
+    begin(right, what);
+    print::answer(seen);
+    end(b"filed ", text);
+    counted(tally, right)
+}
+
+// The factors that an electric settlement files.
+pub(crate) fn filed_levels(
+    tally: Tally,
+    what: &[u8],
+    seen: Answer,
+    secondary: &[u8],
+    primary: &[u8],
+) -> Tally {
+    let right = match seen {
+        Answer::FiledLevels(first, second) => {
+            texts::points_read(first, secondary) & texts::points_read(second, primary)
+        }
+        _ => false,
+    };
+    begin(right, what);
+    print::answer(seen);
+    end_levels(b"filed ", secondary, primary);
+    counted(tally, right)
+}
+
+// A month's interest.
+pub(crate) fn interest(
+    tally: Tally,
+    what: &[u8],
+    seen: Answer,
+    secondary: &[u8],
+    primary: &[u8],
+) -> Tally {
+    let right = match seen {
+        Answer::Interest(first, second) => {
+            texts::cents_read(first, secondary) & texts::cents_read(second, primary)
+        }
+        _ => false,
+    };
+    begin(right, what);
+    print::answer(seen);
+    end_levels(b"interest ", secondary, primary);
+    counted(tally, right)
+}
+
+// A refusal's number.
+pub(crate) fn refused(tally: Tally, what: &[u8], seen: Answer, expected: u8) -> Tally {
+    let right = match seen {
+        Answer::Refused(number) => number == expected,
+        _ => false,
+    };
+    begin(right, what);
+    print::answer(seen);
+    print::text(b", should be refused ");
+    print::number(expected as i64);
+    print::text(b"\n");
+    counted(tally, right)
 }
 
 pub(crate) fn print_count(tally: Tally) {

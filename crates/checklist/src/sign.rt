@@ -5,10 +5,7 @@ use crate::electric_postings::SECONDARY;
 use crate::report;
 use crate::report::Tally;
 use crate::steam_postings;
-use amounts::Cents;
-use amounts::Points;
 use electric_rules::ElectricBook;
-use postings::Answer;
 
 pub(crate) fn check(tally: Tally) -> Tally {
     steam(interest(electric(tally)))
@@ -28,29 +25,25 @@ fn november() -> ElectricBook {
 fn electric(tally: Tally) -> Tally {
     let filed = electric_postings::settle(november(), 95_000, 1_000);
     let answer = filed.answer;
-    let tally = report::answer(
+    let tally = report::filed_levels(
         tally,
         b"Sign, electric, credit factors",
         answer,
-        Answer::FiledLevels(Points(-9), Points(-900)),
+        b"-0.0009",
+        b"-0.0900",
     );
     let book = electric_postings::past_february(filed.book);
     let billed = electric_postings::bill(book, SECONDARY, 10);
     let answer = billed.answer;
-    let tally = report::answer(
+    let tally = report::line(
         tally,
         b"Sign, electric, ten kWh secondary",
         answer,
-        Answer::Line(Cents(-1)),
+        b"-0.01",
     );
     let billed = electric_postings::bill(billed.book, PRIMARY, 10);
     let answer = billed.answer;
-    let tally = report::answer(
-        tally,
-        b"Sign, electric, ten kWh primary",
-        answer,
-        Answer::Line(Cents(-90)),
-    );
+    let tally = report::line(tally, b"Sign, electric, ten kWh primary", answer, b"-0.90");
     electric_dues(tally, billed.book)
 }
 
@@ -60,13 +53,13 @@ fn electric_dues(tally: Tally, book: ElectricBook) -> Tally {
         tally,
         b"Sign, electric, still due secondary",
         book.secondary.first.due,
-        Cents(-8_549),
+        b"-85.49",
     );
     report::cents(
         tally,
         b"Sign, electric, still due primary",
         book.primary.first.due,
-        Cents(-8_910),
+        b"-89.10",
     )
 }
 
@@ -75,11 +68,12 @@ fn interest(tally: Tally) -> Tally {
     let book = electric_postings::adjust(electric_postings::fresh(), PRIMARY, -100);
     let ended = electric_postings::month_end(book, 60_000);
     let answer = ended.answer;
-    report::answer(
+    report::interest(
         tally,
         b"Sign, electric, interest on a credit",
         answer,
-        Answer::Interest(Cents(0), Cents(-1)),
+        b"0.00",
+        b"-0.01",
     )
 }
 
@@ -90,25 +84,10 @@ fn steam(tally: Tally) -> Tally {
     let book = steam_postings::to_last_month(steam_postings::sales(book, 10_000));
     let filed = steam_postings::settle(book);
     let answer = filed.answer;
-    let tally = report::answer(
-        tally,
-        b"Sign, steam, credit factor",
-        answer,
-        Answer::Filed(Points(-900)),
-    );
+    let tally = report::filed(tally, b"Sign, steam, credit factor", answer, b"-0.0900");
     let billed = steam_postings::bill(steam_postings::past_entry(filed.book), 10);
     let answer = billed.answer;
-    let tally = report::answer(
-        tally,
-        b"Sign, steam, ten mmBtu",
-        answer,
-        Answer::Line(Cents(-90)),
-    );
+    let tally = report::line(tally, b"Sign, steam, ten mmBtu", answer, b"-0.90");
     let book = billed.book;
-    report::cents(
-        tally,
-        b"Sign, steam, still due",
-        book.dues[1],
-        Cents(-359_910),
-    )
+    report::cents(tally, b"Sign, steam, still due", book.dues[1], b"-3599.10")
 }
