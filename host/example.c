@@ -1,4 +1,4 @@
-/* A small billing host over the library: both books, a record, rounding. It prints what the library answers. */
+/* A small billing host over the library: both books, a record, rounding, a journal. It prints what the library answers. */
 #include "neapscroll.h"
 
 #include <inttypes.h>
@@ -245,6 +245,24 @@ static void rounding(void)
     printf("weight %" PRId64 "\n", neapscroll_weight(65065800000, 42492400000));
 }
 
+/* Document 01's journal: an opening and three records; then the same with a byte too few for its text. */
+static void journal(void)
+{
+    static const uint8_t input[] = {
+        0x00,
+        0x01, 0x01, 0x00, 0x00, 0x00, 0x00, 0x00, 0x1E, 0x84, 0x80,
+        0x03, 0x02, 0x00, 0x00, 0x00, 0x00, 0x00, 0x00, 0x03, 0xE8,
+        0x04, 0x03, 0x00, 0x00, 0x00, 0x00, 0x00, 0x00, 0x00, 0x01, 0x00, 0x00, 0x00, 0x00, 0x00, 0x00, 0x00, 0x01,
+    };
+    uint8_t text[41 * sizeof input + 82];
+    size_t length = neapscroll_journal_length(input, sizeof input);
+    neapscroll_written written = neapscroll_journal(input, sizeof input, text, sizeof text);
+    printf("journal %u, %zu bytes of %zu\n", (unsigned)written.number, written.length, length);
+    printf("%.*s", (int)written.length, (const char *)text);
+    written = neapscroll_journal(input, sizeof input, text, length - 1);
+    printf("journal %u, %zu bytes\n", (unsigned)written.number, written.length);
+}
+
 int main(void)
 {
     electric();
@@ -252,5 +270,6 @@ int main(void)
     openings();
     record();
     rounding();
+    journal();
     return 0;
 }

@@ -195,6 +195,15 @@ int64_t neapscroll_round_div(int64_t a, int64_t b);
 /* The secondary level's weight, of 100,000; 0 where an amount is below 0 or above 2 * 10^15. */
 int64_t neapscroll_weight(int64_t secondary, int64_t primary);
 
+/* How many bytes the journal program prints for an input: at most 41 * input_length + 82. */
+size_t neapscroll_journal_length(const uint8_t *input, size_t input_length);
+
+/*
+ * Writes all that the journal program prints for an input; where the input itself is refused, its text says so.
+ * Refused (13): the buffer as it was.
+ */
+neapscroll_written neapscroll_journal(const uint8_t *input, size_t input_length, uint8_t *buffer, size_t buffer_length);
+
 /* The layouts that the library has; a compiler that lays a struct out otherwise stops here. */
 #if defined(__cplusplus) && __cplusplus >= 201103L
 #define NEAPSCROLL_SIZE(type, size) static_assert(sizeof(type) == (size), #type " has another size in the library")

@@ -173,8 +173,16 @@ fn rounding() -> String {
     format!("round {rounded}\nweight {}\n", weight(secondary, primary))
 }
 
+/// Document 01's journal, whole.
+const JOURNAL: &str = "1 1 done\n2 3 line 0.00\n3 4 refused 8\n";
+
+fn journal() -> String {
+    let length = JOURNAL.len();
+    format!("journal 0, {length} bytes of {length}\n{JOURNAL}journal 13, 0 bytes\n")
+}
+
 pub fn whole() -> String {
-    electric() + &steam() + &openings() + &record() + &rounding()
+    electric() + &steam() + &openings() + &record() + &rounding() + &journal()
 }
 
 /// Document 01's figures, and what follows from its formulas, stand in what is expected.
