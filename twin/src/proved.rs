@@ -6,6 +6,8 @@ use crate::records::{Book, Posting, Read};
 use crate::steam::SteamBook;
 use crate::written::Written;
 
+pub use exported::{Cents, Points, Reading, Writing};
+
 mod exported {
     use crate::electric::ElectricBook;
     use crate::posted::Posted;
