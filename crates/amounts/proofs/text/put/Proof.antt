@@ -1,4 +1,4 @@
--- `amounts::text::write` writes the text: its parts, stored one behind the other, are it. Assumes nothing.
+-- `amounts::text::put` stores the text: its parts, stored one behind the other, are it. Assumes nothing.
 use mathlib.Core.Path.{_≡_, ap, _∙_}
 use Prim.Native.Nat.{_+_, _/_}
 use native.Mathlib.Omega.{arith}
@@ -9,10 +9,10 @@ use mir.Facts.{toZ-ofZ}
 use denote.Ref.{now}
 use borrow.Author.Needs.{needs}
 use Rattle.ints.specs.Machine.{size-read, size-most}
-use Rattle.amounts.proofs.Texts.{Measured, whole-small, length-sign, length-is, text-stored, too-short, fits}
-use Rattle.amounts.proofs.text.write.Statement.{statement}
+use Rattle.amounts.proofs.Texts.{Measured, whole-small, length-sign, length-is, text-stored, kept, stored}
+use Rattle.amounts.proofs.text.put.Statement.{statement}
 use Rattle.amounts.specs.Text.{signOf}
-use Rattle.amounts.proofs.text.write.Tie as tie
+use Rattle.amounts.proofs.text.put.Tie as tie
 
 size-requires : tie.Need-size-requires
 size-requires c κs = search needs
@@ -51,7 +51,7 @@ measured c =
 
 returns : tie.Need-returns
 returns c = let l = length-is _ _ _ _ _ _ (measured (c .before)) in
-    too-short _ _ (omega arith)
+    (l, omega (arith, length-sign _ _ (c .before .sign-length .ensures)), kept _ _ (omega arith))
 
 put-sign-requires : tie.Need-put-sign-requires
 put-sign-requires c κs = search needs
@@ -75,11 +75,15 @@ returns-2 : tie.Need-returns-2
 returns-2 c = let m = measured (c .before .before .before .before .before .before .before .before .before .before .before .before .before) in
     let s = c .before .before .before .before .before .before .before .before .before .before .before .before .before .before .before .before .before in
     let e : _ ≡ sets (now (s .args .buffer)) 0 (signOf (s .args .amount)) = c .before .before .before .before .before .before .before .before .before .before .put-sign .ensures ∙ ap (λ (z : ℤ). sets (now (s .args .buffer)) 0 (signOf z)) (toZ-ofZ (s .fits .amount)) in
-    fits _ _ _ _ (omega (arith, length-is _ _ _ _ _ _ m)) (length-is _ _ _ _ _ _ m)
-    (text-stored _ _ _ _ _ _ m _ _ _ _ e (c .before .before .before .before .before .before .put-digits .ensures) (c .before .before .put-digits2 .ensures))
+    let l = length-is _ _ _ _ _ _ m in
+    let short = length-sign _ _ (c .before .before .before .before .before .before .before .before .before .before .before .before .before .sign-length .ensures) in (
+      l,
+      omega (arith, short),
+      stored _ _ _ (omega (arith, l)) (text-stored _ _ _ _ _ _ m _ _ _ _ e (c .before .before .before .before .before .before .put-digits .ensures) (c .before .before .put-digits2 .ensures)),
+    )
 
-pub write-spec : {M : Type 1} → statement M
-write-spec =
+pub put-spec : {M : Type 1} → statement M
+put-spec =
     tie.close
     (tie.spec
     size-requires
