@@ -1,59 +1,57 @@
+-- `console::run` prints no more than was written, which is no more than the buffer holds. Assumes nothing.
+use mathlib.Core.Path.{_≡_, sym, subst}
+use mathlib.Core.List.{List}
+use Prim.Native.Nat.{ℕ, _≤_}
+use native.Mathlib.Omega.{arith}
+use lib.ListN.{length}
+use lib.Seq.{length-take-le}
 use borrow.Author.Needs.{needs}
+use Rattle.refusals.specs.declared.Written.{Written}
+use Rattle.amounts.specs.Text.{textWritten, written-within}
 use Rattle.console.proofs.run.Statement.{statement}
 use Rattle.console.proofs.run.Tie as tie
-use Rattle.console.proofs.run.Reads as reads
-use Rattle.console.proofs.run.Lts as lts
-use Rattle.console.proofs.input_buffer.Reads as input-buffer-reads
-use Rattle.console.proofs.output_buffer.Reads as output-buffer-reads
-use Rattle.io.proofs.read_full.Reads as read-full-reads
-use Rattle.io.proofs.write_all.Reads as write-all-reads
-use Rattle.journal.proofs.write.Reads as write-reads
 
--- src/lib.rt:15:21
 input-buffer-requires : tie.Need-input-buffer-requires
 input-buffer-requires c κs = search needs
 
--- src/lib.rt:16:38
 slice-aggregate-read-full : tie.Need-slice-aggregate-read-full
 slice-aggregate-read-full c = search needs
 
--- src/lib.rt:16:9
 read-full-requires : tie.Need-read-full-requires
 read-full-requires c κs = search needs
 
--- src/lib.rt:17:20
 output-buffer-requires : tie.Need-output-buffer-requires
 output-buffer-requires c κs = search needs
 
--- src/lib.rt:18:34
 array-share-prefix-bytes : tie.Need-array-share-prefix-bytes
 array-share-prefix-bytes c = search needs
 
--- src/lib.rt:18:34
 slice-aggregate-write : tie.Need-slice-aggregate-write
 slice-aggregate-write c = search needs
 
--- src/lib.rt:18:51
 slice-aggregate-write-2 : tie.Need-slice-aggregate-write-2
 slice-aggregate-write-2 c = search needs
 
--- src/lib.rt:18:9
 write-requires : tie.Need-write-requires
 write-requires c κs = search needs
 
--- src/lib.rt:20:34
+fits : (text buffer after : List ℕ) (w : Written) → w ≡ textWritten text buffer → length after ≡ length buffer → w .length ≤ length after
+fits text buffer after w e l =
+    let within : w .length ≤ length buffer = subst (λ (r : Written). r .length ≤ length buffer) (sym e) (written-within text buffer) in
+    omega (arith, within, l)
+
+printed : (c : tie.After-text2) → c .before .write .result .length ≤ length (c .before .write .last .1 .0)
+printed c = fits _ _ (c .before .write .last .1 .0) _ (c .before .write .ensures .0) (c .before .write .kept .1 .0)
+
 array-share-prefix-text : tie.Need-array-share-prefix-text
-array-share-prefix-text c = ?
+array-share-prefix-text c = printed c
 
--- src/lib.rt:20:34
 slice-aggregate-write-all : tie.Need-slice-aggregate-write-all
-slice-aggregate-write-all c = ?
+slice-aggregate-write-all c = sym (length-take-le _ _ (printed (c .before)))
 
--- src/lib.rt:20:5
 write-all-requires : tie.Need-write-all-requires
 write-all-requires c κs = search needs
 
--- src/lib.rt:14:1
 returns : tie.Need-returns
 returns c = search needs
 
