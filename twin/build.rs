@@ -1,4 +1,4 @@
-//! Builds the proved static library and links it to the twin.
+//! Builds the proved static library, which is linked to the twin, and the proved journal program.
 
 use std::env;
 use std::fs::File;
@@ -6,15 +6,17 @@ use std::path::{Path, PathBuf};
 use std::process::{Command, Output};
 use std::time::SystemTime;
 
-const COMMAND: &str = "rt staticlib host";
+const LIBRARY: &str = "rt staticlib host";
+const PROGRAM: &str = "rt check neapscroll";
 
 fn main() {
     let top = repository_top();
     let library_folder = top.join("target").join("staticlib");
     let archive = library_folder.join("libhost.a");
 
-    build_archive(&top);
+    run(LIBRARY, &top);
     date_before_any_run(&archive);
+    run(PROGRAM, &top);
 
     for input in [top.join("crates"), top.join("crates.txt"), archive] {
         println!("cargo::rerun-if-changed={}", input.display());
@@ -33,22 +35,22 @@ fn repository_top() -> PathBuf {
     top.expect("the twin stands in a repository").to_path_buf()
 }
 
-fn build_archive(top: &Path) {
-    let mut words = COMMAND.split(' ');
-    let program = words.next().expect("the command has a first word");
+fn run(command: &str, top: &Path) {
+    let mut words = command.split(' ');
+    let program = words.next().expect("a command has a first word");
     match Command::new(program).args(words).current_dir(top).output() {
         Ok(output) if output.status.success() => {}
-        Ok(output) => panic!("{}", failure(top, &output)),
+        Ok(output) => panic!("{}", failure(command, top, &output)),
         Err(error) => panic!(
-            "`{COMMAND}` could not be started in {}: {error} (is `{program}` on PATH?)",
+            "`{command}` could not be started in {}: {error} (is `{program}` on PATH?)",
             top.display()
         ),
     }
 }
 
-fn failure(top: &Path, output: &Output) -> String {
+fn failure(command: &str, top: &Path, output: &Output) -> String {
     format!(
-        "`{COMMAND}` failed in {} with {}\n{}{}",
+        "`{command}` failed in {} with {}\n{}{}",
         top.display(),
         output.status,
         String::from_utf8_lossy(&output.stdout),
@@ -60,6 +62,6 @@ fn failure(top: &Path, output: &Output) -> String {
 fn date_before_any_run(archive: &Path) {
     let dated = File::open(archive).and_then(|file| file.set_modified(SystemTime::UNIX_EPOCH));
     if let Err(error) = dated {
-        panic!("`{COMMAND}` left no usable {}: {error}", archive.display());
+        panic!("`{LIBRARY}` left no usable {}: {error}", archive.display());
     }
 }

@@ -1,10 +1,14 @@
-//! A second, independent ledger: arithmetic, text, records, both books, and the proved ones beside.
+//! A second, independent ledger: arithmetic, text, records, both books, the journal program, and the
+//! proved ones beside.
 
 #![deny(unsafe_code)]
 
 pub mod amounts;
 pub mod calendar;
+pub mod comparison;
 pub mod electric;
+pub mod generate;
+pub mod journal;
 pub mod posted;
 #[allow(unsafe_code)]
 pub mod proved;

@@ -6,6 +6,8 @@ use crate::records::{Book, Posting, Read};
 use crate::steam::SteamBook;
 use crate::written::Written;
 
+pub use exported::{Cents, Points, Reading, Writing};
+
 mod exported {
     use crate::electric::ElectricBook;
     use crate::posted::Posted;
@@ -62,6 +64,13 @@ mod exported {
             fourth: i64,
         ) -> Posted<SteamBook>;
         pub fn neapscroll_steam_post(book: SteamBook, posting: Posting) -> Posted<SteamBook>;
+        pub fn neapscroll_journal(
+            input: *const u8,
+            input_length: usize,
+            buffer: *mut u8,
+            length: usize,
+        ) -> Writing;
+        pub fn neapscroll_journal_length(input: *const u8, input_length: usize) -> usize;
     }
 }
 
@@ -139,6 +148,21 @@ pub fn steam_open(quarters: [i64; 4]) -> Posted<SteamBook> {
 pub fn steam_post(book: SteamBook, posting: Posting) -> Posted<SteamBook> {
     // SAFETY: the function is total on books and postings and touches no memory of its caller.
     posted(unsafe { exported::neapscroll_steam_post(book, posting) })
+}
+
+/// All that the journal program prints for the input, as proved.
+#[inline]
+pub fn journal(input: &[u8], buffer: &mut [u8]) -> Written {
+    let (start, length) = (buffer.as_mut_ptr(), buffer.len());
+    // SAFETY: the function only reads the input, and touches no other memory but the buffer.
+    written(unsafe { exported::neapscroll_journal(input.as_ptr(), input.len(), start, length) })
+}
+
+/// How many bytes the journal program prints for the input, as proved.
+#[inline]
+pub fn journal_length(input: &[u8]) -> usize {
+    // SAFETY: the function only reads the input of that length.
+    unsafe { exported::neapscroll_journal_length(input.as_ptr(), input.len()) }
 }
 
 #[inline]

@@ -1,6 +1,6 @@
 //! The paper's posting records: a kind, a bit map, and the fields that are not 0.
 
-use crate::refusals::{FIELD_LACKED_BY_KIND, UNKNOWN_KIND};
+use crate::refusals::{FIELD_LACKED_BY_KIND, FIELD_OF_ZERO, INPUT_ENDS, RECORD_CUT, UNKNOWN_KIND};
 use crate::written::{Refusal, Written, BUFFER_TOO_SHORT};
 
 pub const COST: u8 = 1;
@@ -45,10 +45,6 @@ const STEAM_FIELDS: [u8; 7] = [0b1, 0b1, 0b1, 0b1, 0, 0b11, 0b11];
 const HEAD_LENGTH: usize = 2;
 const FIELD_LENGTH: usize = 8;
 
-const NO_HEAD: Refusal = 1;
-const RECORD_CUT: Refusal = 4;
-const FIELD_OF_ZERO: Refusal = 5;
-
 /// Whether a field is within so much of 0.
 #[inline]
 pub(crate) fn is_signed(number: i64, most: i64) -> bool {
@@ -87,7 +83,7 @@ pub fn read_record(book: Book, bytes: &[u8], place: usize) -> Read {
 #[inline]
 fn read_front(book: Book, bytes: &[u8]) -> Result<(Posting, usize), Refusal> {
     let &[kind, bit_map, ..] = bytes else {
-        return Err(NO_HEAD);
+        return Err(INPUT_ENDS);
     };
     let kind_fields = book.fields(kind).ok_or(UNKNOWN_KIND)?;
     if bit_map & !kind_fields != 0 {

@@ -1,6 +1,6 @@
 //! The paper's text of amounts.
 
-use crate::written::{Written, BUFFER_TOO_SHORT};
+use crate::written::{write_to_front, Written};
 
 /// The longest text: a minus, 19 digits and a point.
 const LONGEST: usize = 21;
@@ -61,7 +61,7 @@ fn write_amount<const PAIRS_AFTER_POINT: usize>(amount: i64, buffer: &mut [u8]) 
     if amount < 0 {
         start = put_before(start, &mut text, b'-');
     }
-    copy_to_front(&text[start..], buffer)
+    write_to_front(&text[start..], buffer)
 }
 
 /// Puts a byte before the start, and gives the new start.
@@ -76,15 +76,4 @@ fn put_before(start: usize, text: &mut [u8; LONGEST], byte: u8) -> usize {
 fn put_pair_before(start: usize, text: &mut [u8; LONGEST], number: u64) -> usize {
     text[start - 2..start].copy_from_slice(&DIGIT_PAIRS[number as usize]);
     start - 2
-}
-
-#[inline]
-fn copy_to_front(text: &[u8], buffer: &mut [u8]) -> Written {
-    match buffer.get_mut(..text.len()) {
-        Some(front) => {
-            front.copy_from_slice(text);
-            Written::Length(text.len())
-        }
-        None => Written::Refused(BUFFER_TOO_SHORT),
-    }
 }

@@ -13,3 +13,15 @@ pub enum Written {
     /// Every byte of the buffer is as it was.
     Refused(Refusal),
 }
+
+/// Writes the bytes to the front of the buffer, or refuses and leaves it as it was.
+#[inline]
+pub(crate) fn write_to_front(bytes: &[u8], buffer: &mut [u8]) -> Written {
+    match buffer.get_mut(..bytes.len()) {
+        Some(front) => {
+            front.copy_from_slice(bytes);
+            Written::Length(bytes.len())
+        }
+        None => Written::Refused(BUFFER_TOO_SHORT),
+    }
+}

@@ -5,6 +5,7 @@ use mathlib.Core.List.{List, [], _∷_, _++_, map-append}
 use Prim.Native.Nat.{ℕ, zero, suc, _+_, _-_, _*_, _/_, _%_, _^_, _<_, _≤_}
 use native.Mathlib.Omega.{arith}
 use native.Mathlib.Nat.{div-lt-iff-lt-mul}
+use lib.Dec.{ltb}
 use lib.IntN.{ℤ, pos, natAbs}
 use lib.Signed.{ltZ, _≤ℤ_, _<ℤ_}
 use lib.ListN.{length, set, length-map, length-append}
@@ -12,6 +13,7 @@ use lib.Seq.{sets}
 use borrow.Author.Tests.{lt-ltb, le-ltb}
 use Rattle.ints.specs.Digits.{digits, length-digits}
 use Rattle.ints.specs.Order.{signed}
+use Rattle.refusals.specs.Rows.{row, byTable}
 use Rattle.refusals.specs.Laws.{at-row, accepted}
 use Rattle.refusals.specs.Stores.{sets-last, sets-append}
 use Rattle.refusals.specs.Writer.{wrote, refused, tooShort, writer-refuses, writer-accepts}
@@ -105,12 +107,27 @@ module _ (places : ℕ) (z : ℤ) (size whole start count : ℕ) (m : Measured p
       ∙ ap (λ (k : ℕ). sets (sets buffer 0 (signOf z)) k (number ++ rest)) a
       ∙ sym (sets-append buffer 0 (signOf z) (number ++ rest))
 
--- ---- the answer
+-- ---- the buffer afterwards, and the answer
 
-pub too-short : (text buffer : List ℕ) → length buffer < length text → (refused 13 ≡ textWritten text buffer) × (buffer ≡ textLeft text buffer)
-unfolding textWritten textLeft tooShort
-too-short text buffer h = writer-refuses (textRows text buffer) text buffer 13 (omega arith) (at-row 13 [] (lt-ltb (length buffer) (length text) h))
+pub kept : (text buffer : List ℕ) → length buffer < length text → buffer ≡ textLeft text buffer
+unfolding textLeft tooShort
+kept text buffer h = writer-refuses (textRows text buffer) text buffer 13 (omega arith) (at-row 13 [] (lt-ltb (length buffer) (length text) h)) .1
 
-pub fits : (text buffer after : List ℕ) (n : ℕ) → length text ≤ length buffer → n ≡ length text → after ≡ sets buffer 0 text → (wrote n ≡ textWritten text buffer) × (after ≡ textLeft text buffer)
-unfolding textWritten textLeft tooShort
-fits text buffer after n h e s = writer-accepts (textRows text buffer) text buffer after n (accepted (textRows text buffer) (le-ltb (length buffer) (length text) h, tt)) h e s
+pub stored : (text buffer after : List ℕ) → length text ≤ length buffer → after ≡ sets buffer 0 text → after ≡ textLeft text buffer
+unfolding textLeft tooShort
+stored text buffer after h s = writer-accepts (textRows text buffer) text buffer after (length text) (accepted (textRows text buffer) (le-ltb (length buffer) (length text) h, tt)) h refl s .1
+
+-- a writer answers by the lengths of text and buffer alone
+pub answered : (text buffer : List ℕ) (n room : ℕ) → n ≡ length text → room ≡ length buffer → byTable (row 13 (ltb room n) ∷ []) (wrote n) refused ≡ textWritten text buffer
+unfolding textWritten tooShort
+answered text buffer n room e f = λ i. byTable (row 13 (ltb (f i) (e i)) ∷ []) (wrote (e i)) refused
+
+-- ---- a whole number
+
+pub decimal-length : (count n : ℕ) → count ≡ widthOf n → count ≡ length (decimal n)
+unfolding decimal
+decimal-length count n e = e ∙ sym (length-characters (widthOf n) n)
+
+pub decimal-stored : (buffer after : List ℕ) (count n : ℕ) → count ≡ widthOf n → after ≡ sets buffer 0 (characters (digits 10 count n)) → after ≡ sets buffer 0 (decimal n)
+unfolding decimal
+decimal-stored buffer after count n e s = s ∙ ap (λ (k : ℕ). sets buffer 0 (characters (digits 10 k n))) e

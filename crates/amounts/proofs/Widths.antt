@@ -5,7 +5,7 @@ use Prim.Native.Nat.{ℕ, zero, suc, _+_, _*_, _/_, _^_, _<_, _≤_}
 use native.Mathlib.Omega.{arith}
 use native.Mathlib.Nat.{pow-suc, pow-le-pow-right, one-le-pow, div-div-eq-div-mul, le-div-iff-mul-le, div-lt-iff-lt-mul, mul-div-cancel}
 use lib.Dec.{leb, ltb, lit<}
-use borrow.Author.Tests.{lt-ltb, le-ltb, leb-true, leb-false}
+use borrow.Author.Tests.{lt-ltb, le-ltb, ltb-true, ltb-false, leb-true, leb-false}
 use Rattle.amounts.specs.Text.{widthIn, widthOf}
 
 -- once there is room for n, more room changes nothing
@@ -64,3 +64,15 @@ module _ (n width power : ℕ) (c : Counted n width power) where
   done h =
       let last : n * 10 / power < 10 = div-lt-iff-lt-mul positive .1 (omega arith) in
       omega (arith, c .digits, one-digit (n * 10 / power) last)
+
+-- a number below 10 to some power has no more digits than that
+pub width-most : (more n : ℕ) → n < 10 ^ suc more → widthOf n ≤ suc more
+width-most zero n h = omega (arith, one-digit n h)
+width-most (suc more) n h = go (ltb n 10) refl (width-most more (n / 10))
+  where
+    go : (t : Bool) → ltb n 10 ≡ t → (n / 10 < 10 ^ suc more → widthOf (n / 10) ≤ suc more) → widthOf n ≤ suc (suc more)
+    go true e most = omega (arith, one-digit n (ltb-true n 10 e))
+    go false e most =
+        let small : n < 10 ^ suc more * 10 = omega (arith, pow-suc 10 (suc more)) in
+        let fewer = most (div-lt-iff-lt-mul (lit< tt) .1 small) in
+        omega (arith, more-digits n (ltb-false n 10 e))

@@ -1,13 +1,17 @@
 -- Amounts as text (01, Text): characters are their ASCII codes.
 use mathlib.Core.Bool.{cond}
 use mathlib.Core.List.{List, [], _∷_, _++_, map}
-use Prim.Native.Nat.{ℕ, zero, suc, _+_, _/_, _^_}
+use Prim.Native.Nat.{ℕ, zero, suc, _+_, _/_, _^_, _≤_}
+use native.Mathlib.Omega.{arith}
 use lib.Dec.{ltb}
 use lib.IntN.{ℤ, pos, natAbs}
+use lib.ListN.{length}
 use lib.Signed.{ltZ}
+use borrow.Author.Tests.{ltb-false}
 use Rattle.ints.specs.Digits.{digits}
 use Rattle.refusals.specs.Rows.{Row, row}
-use Rattle.refusals.specs.Writer.{tooShort, writtenBy, leftBy}
+use Rattle.refusals.specs.Laws.{by-table}
+use Rattle.refusals.specs.Writer.{wrote, refused, tooShort, writtenBy, leftBy}
 use Rattle.refusals.specs.declared.Written.{Written}
 use Rattle.amounts.specs.declared.Cents.{Cents}
 use Rattle.amounts.specs.declared.Points.{Points}
@@ -56,3 +60,10 @@ textWritten text buffer = writtenBy (textRows text buffer) text
 
 unfoldable pub textLeft : List ℕ → List ℕ → List ℕ
 textLeft text buffer = leftBy (textRows text buffer) text buffer
+
+-- no more was written than the buffer holds
+pub written-within : (text buffer : List ℕ) → textWritten text buffer .length ≤ length buffer
+unfolding textWritten tooShort
+written-within text buffer =
+    by-table (λ (w : Written). w .length ≤ length buffer) (textRows text buffer) (wrote (length text)) refused tt
+    (λ none. ltb-false (length buffer) (length text) (none .0)) (λ n. omega arith)

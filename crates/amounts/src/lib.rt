@@ -1,10 +1,12 @@
 // Amounts: money in whole cents and factors in points, each a type of its own, with their limits and their text.
 use refusals::Written;
 ghost use mathlib.Core.Path.{_≡_};
+ghost use Prim.Native.Nat.{_≤_};
+ghost use lib.ListN.{length};
 ghost use Rattle.amounts.specs.Amounts.{centsInLimits, pointsInLimits};
 ghost use Rattle.amounts.specs.Text.{centsText, pointsText, textWritten, textLeft};
 
-mod text;
+pub mod text;
 
 // Money in whole cents.
 #[repr(C)]
@@ -26,11 +28,19 @@ impl Cents {
         ints::in_range(self.0, Cents::LEAST, Cents::MOST)
     }
 
+    // Stores the text where the buffer has room for it, and answers its length in either case.
+    pub fn put(self, buffer: &mut [u8]) -> usize
+        ensures { λ r. ⌜ (r ≡ length (centsText self)) × (r ≤ 24) × (now (buffer .exit) ≡ textLeft (centsText self) (now (buffer .entry))) ⌝ }
+    {
+        text::put(self.0, 2, 100, buffer)
+    }
+
     // Writes the amount as text into the buffer: how many bytes, or refusal 13 with the buffer as it was.
     pub fn write(self, buffer: &mut [u8]) -> Written
         ensures { λ r. ⌜ (r ≡ textWritten (centsText self) (now (buffer .entry))) × (now (buffer .exit) ≡ textLeft (centsText self) (now (buffer .entry))) ⌝ }
     {
-        text::write(self.0, 2, 100, buffer)
+        let length = self.put(buffer);
+        text::written(length, buffer.len())
     }
 }
 
@@ -46,10 +56,18 @@ impl Points {
         ints::in_range(self.0 as i64, Points::LEAST as i64, Points::MOST as i64)
     }
 
+    // Stores the text where the buffer has room for it, and answers its length in either case.
+    pub fn put(self, buffer: &mut [u8]) -> usize
+        ensures { λ r. ⌜ (r ≡ length (pointsText self)) × (r ≤ 24) × (now (buffer .exit) ≡ textLeft (pointsText self) (now (buffer .entry))) ⌝ }
+    {
+        text::put(self.0 as i64, 4, 10_000, buffer)
+    }
+
     // Writes the factor as text into the buffer: how many bytes, or refusal 13 with the buffer as it was.
     pub fn write(self, buffer: &mut [u8]) -> Written
         ensures { λ r. ⌜ (r ≡ textWritten (pointsText self) (now (buffer .entry))) × (now (buffer .exit) ≡ textLeft (pointsText self) (now (buffer .entry))) ⌝ }
     {
-        text::write(self.0 as i64, 4, 10_000, buffer)
+        let length = self.put(buffer);
+        text::written(length, buffer.len())
     }
 }

@@ -14,6 +14,7 @@ ghost use Rattle.records.specs.Records.{readOf, recordWritten, recordLeft};
 ghost use Rattle.host.specs.Books.{bookOf};
 
 mod electric_book;
+mod journal_text;
 mod replies;
 mod steam_book;
 

@@ -4,7 +4,7 @@ use mathlib.Core.List.{List, []}
 use Prim.Native.Nat.{ℕ, _-_, _^_}
 use lib.Dec.{ltb}
 use lib.IntN.{ℤ, pos, natAbs, _-ℤ_}
-use lib.ListN.{take}
+use lib.ListN.{length, take}
 use lib.Signed.{ltZ}
 use Rattle.ints.specs.Digits.{digits, value}
 use Rattle.ints.specs.Machine.{eqZ}
@@ -16,6 +16,10 @@ twosComplement bits = cond (ltb bits (2 ^ 63)) (pos bits) (pos bits -ℤ pos (2 
 -- the field that begins these bytes
 unfoldable pub fieldOf : List ℕ → ℤ
 fieldOf bytes = twosComplement (value 256 (take 8 bytes))
+
+-- the field that begins these bytes, 0 where they are fewer than 8
+unfoldable pub fieldOr0 : List ℕ → ℤ
+fieldOr0 bytes = cond (ltb (length bytes) 8) (pos 0) (fieldOf bytes)
 
 -- the 64 bits of a number: 2^64 less its size if it is below zero
 unfoldable pub bitsOf : ℤ → ℕ

@@ -1,15 +1,17 @@
 -- Posting records (01, Posting records, Refusals in order of checking): what reading at a place gives, and what writing a posting.
-use mathlib.Core.Path.{_≡_, refl}
+use mathlib.Core.Path.{_≡_, refl, sym, ap, _∙_}
 use mathlib.Core.Bool.{Bool, true, false, _||_}
 use mathlib.Core.List.{List, [], _∷_, _++_}
-use Prim.Native.Nat.{ℕ, _+_, _*_}
+use Prim.Native.Nat.{ℕ, _+_, _*_, _≤_}
+use native.Mathlib.Omega.{arith}
 use lib.Count.{ones}
 use lib.Dec.{ltb}
 use lib.IntN.{ℤ, pos}
-use lib.ListN.{length, getD, drop}
+use lib.ListN.{length, getD, drop, length-drop}
+use borrow.Author.Tests.{ltb-false}
 use Rattle.ints.specs.Machine.{eqZ}
 use Rattle.refusals.specs.Rows.{Row, row, refusalBy, byTable}
-use Rattle.refusals.specs.Laws.{gives-number}
+use Rattle.refusals.specs.Laws.{none-holds, gives-asked, gives-number}
 use Rattle.refusals.specs.Writer.{tooShort, writtenBy, leftBy}
 use Rattle.refusals.specs.declared.Written.{Written}
 use Rattle.postings.specs.BitMaps.{bitsFrom, bitMapOf}
@@ -80,6 +82,22 @@ readOf book bytes place =
 pub read-number : (book : Book) (bytes : List ℕ) (place : ℕ) → readOf book bytes place .number ≡ refusalBy (readingRows book (drop place bytes))
 unfolding readOf
 read-number book bytes place = gives-number (readingRows book (drop place bytes)) _ (refusedAt place) (λ (r : Read). r .number) refl (λ n. refl)
+
+-- a record that is found has two bytes at least, and all its bytes remain
+pub found-on :
+    (book : Book) (bytes : List ℕ) (place : ℕ) → readOf book bytes place .number ≡ 0 →
+    (place + 2 ≤ readOf book bytes place .place) × (readOf book bytes place .place ≤ length bytes)
+unfolding readOf recordLength
+found-on book bytes place e =
+    let rest = drop place bytes in
+    let rows = readingRows book rest in
+    let none = sym (read-number book bytes place) ∙ e in
+    let holds = none-holds rows tt none in
+    let some = ltb-false (length rest) 2 (holds .0) in
+    let enough = ltb-false (length rest) (recordLength (bitMapIn rest)) (holds .1 .1 .1 .0) in
+    let found : readOf book bytes place .place ≡ place + recordLength (bitMapIn rest) = ap (λ (r : Read). r .place) (gives-asked rows _ (refusedAt place) none) in
+    let left = length-drop place bytes in
+    (omega arith, omega arith)
 
 -- ---- writing
 

@@ -3,6 +3,8 @@ use postings::Book;
 use postings::Posting;
 use refusals::Written;
 ghost use mathlib.Core.Path.{_≡_};
+ghost use lib.ListN.{drop};
+ghost use Rattle.records.specs.Fields.{fieldOr0};
 ghost use Rattle.records.specs.Records.{readOf, recordWritten, recordLeft};
 
 mod fields;
@@ -15,6 +17,16 @@ pub struct Read {
     pub number: u8,
     pub place: usize,
     pub posting: Posting,
+}
+
+// Reads the 8 bytes at a place as a field; 0 where fewer remain.
+pub fn read_field(bytes: &[u8], place: usize) -> i64
+    ensures { λ r. ⌜ r ≡ fieldOr0 (drop place (now (bytes .entry))) ⌝ }
+{
+    if parts::remaining(bytes, place) < 8 {
+        return 0;
+    }
+    fields::field_at(bytes, place)
 }
 
 // Reads the record at a place of the bytes.

@@ -3,9 +3,6 @@
 #![forbid(unsafe_code)]
 
 mod books;
-mod driver;
-#[path = "../common/fields.rs"]
-mod fields;
 mod figures;
 mod halves;
 mod histories;
@@ -13,9 +10,11 @@ mod limits;
 #[path = "../common/met.rs"]
 mod met;
 mod openings;
-mod postings;
 mod refusals;
 mod riders;
 mod sides;
 mod stored;
 mod wrong_books;
+
+use twin::generate::electric::{driver, postings};
+use twin::generate::fields;

@@ -3,9 +3,6 @@
 #![forbid(unsafe_code)]
 
 mod books;
-mod driver;
-#[path = "../common/fields.rs"]
-mod fields;
 mod figures;
 mod five_percent;
 mod halves;
@@ -15,10 +12,12 @@ mod limits;
 mod met;
 mod next_limits;
 mod openings;
-mod postings;
 mod reconciliations;
 mod refusals;
 mod riders;
 mod sides;
 mod stored;
 mod wrong_books;
+
+use twin::generate::fields;
+use twin::generate::steam::{driver, postings};

@@ -12,8 +12,12 @@ pub trait Measured: Copy + std::fmt::Debug {
     const KINDS: &[(u8, &str)];
     /// The name of the row of postings in turn.
     const HISTORY: &str;
+    /// The name of the row of a whole journal.
+    const JOURNAL: &str;
 
     fn fresh(random: &mut Random) -> Self;
+    /// The first bytes of a journal that opens with the book, which is fresh.
+    fn opening(&self) -> Vec<u8>;
     fn post_proved(self, posting: Posting) -> Posted<Self>;
     fn post_twin(self, posting: Posting) -> Posted<Self>;
     /// The postings of a month as a utility has them, all of which the book accepts.
@@ -23,7 +27,7 @@ pub trait Measured: Copy + std::fmt::Debug {
 }
 
 /// A book, and a posting that it accepts.
-type Case<Book> = (Book, Posting);
+pub type Case<Book> = (Book, Posting);
 
 pub fn rows<Book: Measured>() {
     let mut random = Random::new(SEED);
@@ -35,7 +39,7 @@ pub fn rows<Book: Measured>() {
             || post_each(&cases, Book::post_twin),
         );
     }
-    let history = history::<Book>(&mut random);
+    let history = history::<Book>(&mut random, CASES);
     let fresh = history[0].0;
     let postings: Vec<Posting> = history.into_iter().map(|(_, posting)| posting).collect();
     row(
@@ -84,17 +88,17 @@ fn cases_of<Book: Measured>(kind: u8, random: &mut Random) -> Vec<Case<Book>> {
     let mut cases = Vec::new();
     while cases.len() < CASES {
         let of_kind = |case: &Case<Book>| case.1.kind == kind;
-        cases.extend(history(random).into_iter().filter(of_kind));
+        cases.extend(history(random, CASES).into_iter().filter(of_kind));
     }
     cases.truncate(CASES);
     cases
 }
 
 /// Some years from a fresh book, each posting with the book that it is for.
-fn history<Book: Measured>(random: &mut Random) -> Vec<Case<Book>> {
+pub fn history<Book: Measured>(random: &mut Random, postings: usize) -> Vec<Case<Book>> {
     let mut book = Book::fresh(random);
     let mut history = Vec::new();
-    while history.len() < CASES {
+    while history.len() < postings {
         for posting in book.month(random) {
             history.push((book, posting));
             let posted = book.post_twin(posting);
@@ -102,6 +106,6 @@ fn history<Book: Measured>(random: &mut Random) -> Vec<Case<Book>> {
             book = posted.book;
         }
     }
-    history.truncate(CASES);
+    history.truncate(postings);
     history
 }

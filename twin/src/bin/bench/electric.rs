@@ -17,9 +17,14 @@ impl Measured for ElectricBook {
         (ADJUST, "electric_adjust"),
     ];
     const HISTORY: &str = "electric_history";
+    const JOURNAL: &str = "electric_journal";
 
     fn fresh(random: &mut Random) -> Self {
         open(random.one_of(&[L_AND_P, MPS])).book
+    }
+
+    fn opening(&self) -> Vec<u8> {
+        vec![self.division]
     }
 
     #[inline]

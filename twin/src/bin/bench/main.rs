@@ -5,6 +5,7 @@
 mod arithmetic;
 mod books;
 mod electric;
+mod journals;
 mod measure;
 mod records;
 mod steam;
@@ -26,4 +27,6 @@ fn main() {
     text::rows();
     books::rows::<ElectricBook>();
     books::rows::<SteamBook>();
+    journals::row::<ElectricBook>();
+    journals::row::<SteamBook>();
 }

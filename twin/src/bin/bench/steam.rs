@@ -2,6 +2,7 @@
 
 use crate::books::Measured;
 use crate::measure::add;
+use twin::journal::STEAM;
 use twin::proved;
 use twin::random::Random;
 use twin::records::{Posting, ADJUST, BILL, COST, MONTH_END, RECONCILE, SALES, SETTLE};
@@ -18,10 +19,17 @@ impl Measured for SteamBook {
         (RECONCILE, "steam_reconcile"),
     ];
     const HISTORY: &str = "steam_history";
+    const JOURNAL: &str = "steam_journal";
 
     fn fresh(random: &mut Random) -> Self {
         let [first, second, third, fourth] = [0; 4].map(|_: i64| quarter(random));
         open(first, second, third, fourth).book
+    }
+
+    fn opening(&self) -> Vec<u8> {
+        let mut opening = vec![STEAM];
+        opening.extend(self.quarters.map(i64::to_be_bytes).as_flattened());
+        opening
     }
 
     #[inline]

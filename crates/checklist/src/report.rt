@@ -1,0 +1,160 @@
+// A line for each fact, with what was seen and what it should be, and the count of them.
+use crate::print;
+use crate::texts;
+use amounts::Cents;
+use postings::Answer;
+
+// Facts checked so far, and those that are as they should be.
+pub(crate) struct Tally {
+    pub checks: u64,
+    pub right: u64,
+}
+
+pub(crate) fn none() -> Tally {
+    Tally {
+        checks: 0,
+        right: 0,
+    }
+}
+
+// A program has room for far fewer facts than would wrap the count.
+fn counted(tally: Tally, right: bool) -> Tally {
+    let checks = std::num::wrapping_add_u64(tally.checks, 1);
+    let mut next = tally;
+    next.checks = checks;
+    if right {
+        let right = std::num::wrapping_add_u64(tally.right, 1);
+        next.right = right;
+    }
+    next
+}
+
+fn begin(right: bool, what: &[u8]) {
+    if right {
+        print::text(b"ok    ");
+    } else {
+        print::text(b"WRONG ");
+    }
+    print::text(what);
+    print::text(b": ");
+}
+
+fn end(word: &[u8], text: &[u8]) {
+    print::text(b", should be ");
+    print::text(word);
+    print::text(text);
+    print::text(b"\n");
+}
+
+fn end_levels(word: &[u8], secondary: &[u8], primary: &[u8]) {
+    print::text(b", should be ");
+    print::text(word);
+    print::text(secondary);
+    print::text(b" ");
+    print::text(primary);
+    print::text(b"\n");
+}
+
+// Cents that a book holds.
+pub(crate) fn cents(tally: Tally, what: &[u8], seen: Cents, text: &[u8]) -> Tally {
+    let right = texts::cents_read(seen, text);
+    begin(right, what);
+    print::cents(seen);
+    end(b"", text);
+    counted(tally, right)
+}
+
+pub(crate) fn number(tally: Tally, what: &[u8], seen: i64, expected: i64) -> Tally {
+    let right = seen == expected;
+    begin(right, what);
+    print::number(seen);
+    print::text(b", should be ");
+    print::number(expected);
+    print::text(b"\n");
+    counted(tally, right)
+}
+
+// A bill's line.
+pub(crate) fn line(tally: Tally, what: &[u8], seen: Answer, text: &[u8]) -> Tally {
+    let right = match seen {
+        Answer::Line(line) => texts::cents_read(line, text),
+        _ => false,
+    };
+    begin(right, what);
+    print::answer(seen);
+    end(b"line ", text);
+    counted(tally, right)
+}
+
+// The factor that a steam settlement files.
+pub(crate) fn filed(tally: Tally, what: &[u8], seen: Answer, text: &[u8]) -> Tally {
+    let right = match seen {
+        Answer::Filed(factor) => texts::points_read(factor, text),
+        _ => false,
+    };
+    begin(right, what);
+    print::answer(seen);
+    end(b"filed ", text);
+    counted(tally, right)
+}
+
+// The factors that an electric settlement files.
+pub(crate) fn filed_levels(
+    tally: Tally,
+    what: &[u8],
+    seen: Answer,
+    secondary: &[u8],
+    primary: &[u8],
+) -> Tally {
+    let right = match seen {
+        Answer::FiledLevels(first, second) => {
+            texts::points_read(first, secondary) & texts::points_read(second, primary)
+        }
+        _ => false,
+    };
+    begin(right, what);
+    print::answer(seen);
+    end_levels(b"filed ", secondary, primary);
+    counted(tally, right)
+}
+
+// A month's interest.
+pub(crate) fn interest(
+    tally: Tally,
+    what: &[u8],
+    seen: Answer,
+    secondary: &[u8],
+    primary: &[u8],
+) -> Tally {
+    let right = match seen {
+        Answer::Interest(first, second) => {
+            texts::cents_read(first, secondary) & texts::cents_read(second, primary)
+        }
+        _ => false,
+    };
+    begin(right, what);
+    print::answer(seen);
+    end_levels(b"interest ", secondary, primary);
+    counted(tally, right)
+}
+
+// A refusal's number.
+pub(crate) fn refused(tally: Tally, what: &[u8], seen: Answer, expected: u8) -> Tally {
+    let right = match seen {
+        Answer::Refused(number) => number == expected,
+        _ => false,
+    };
+    begin(right, what);
+    print::answer(seen);
+    print::text(b", should be refused ");
+    print::number(expected as i64);
+    print::text(b"\n");
+    counted(tally, right)
+}
+
+pub(crate) fn print_count(tally: Tally) {
+    io::print_decimal(libc::STDOUT_FILENO, tally.checks);
+    print::text(b" checks, ");
+    io::print_decimal(libc::STDOUT_FILENO, tally.right);
+    print::text(b" as they should be\n");
+}

@@ -1,0 +1,79 @@
+// Two steam books side by side: in how many of their 23 fields they differ.
+use crate::fields::differ;
+use crate::fields::in_cents;
+use crate::fields::in_points;
+use crate::fields::in_run;
+use amounts::Cents;
+use amounts::Points;
+use steam_rules::Mmbtu;
+use steam_rules::Period;
+use steam_rules::Reconciliation;
+use steam_rules::SteamBook;
+ghost use Prim.Native.Nat.{_≤_};
+
+fn in_sales(one: Mmbtu, other: Mmbtu) -> u64
+    ensures { λ r. ⌜ r ≤ 1 ⌝ }
+{
+    differ(one.0, other.0)
+}
+
+fn in_period(one: Period, other: Period) -> u64
+    ensures { λ r. ⌜ r ≤ 3 ⌝ }
+{
+    in_cents(one.cost, other.cost)
+        + in_sales(one.sales, other.sales)
+        + differ(one.remainder.0, other.remainder.0)
+}
+
+fn in_quarters(one: [Mmbtu; 4], other: [Mmbtu; 4]) -> u64
+    ensures { λ r. ⌜ r ≤ 4 ⌝ }
+{
+    in_sales(one[0], other[0])
+        + in_sales(one[1], other[1])
+        + in_sales(one[2], other[2])
+        + in_sales(one[3], other[3])
+}
+
+fn in_factors(one: [Points; 4], other: [Points; 4]) -> u64
+    ensures { λ r. ⌜ r ≤ 4 ⌝ }
+{
+    in_points(one[0], other[0])
+        + in_points(one[1], other[1])
+        + in_points(one[2], other[2])
+        + in_points(one[3], other[3])
+}
+
+fn in_dues(one: [Cents; 4], other: [Cents; 4]) -> u64
+    ensures { λ r. ⌜ r ≤ 4 ⌝ }
+{
+    in_cents(one[0], other[0])
+        + in_cents(one[1], other[1])
+        + in_cents(one[2], other[2])
+        + in_cents(one[3], other[3])
+}
+
+fn in_reconciliation(one: Reconciliation, other: Reconciliation) -> u64
+    ensures { λ r. ⌜ r ≤ 3 ⌝ }
+{
+    in_run(one.run, other.run) + differ(one.months as i64, other.months as i64)
+}
+
+pub(crate) fn differing(one: SteamBook, other: SteamBook) -> u64
+    ensures { λ r. ⌜ r ≤ 23 ⌝ }
+{
+    let past = one.quarters;
+    let other_past = other.quarters;
+    let factors = one.factors;
+    let other_factors = other.factors;
+    let dues = one.dues;
+    let other_dues = other.dues;
+    differ(one.month as i64, other.month as i64)
+        + differ(one.settled as i64, other.settled as i64)
+        + in_period(one.period, other.period)
+        + in_quarters(past, other_past)
+        + in_cents(one.carried, other.carried)
+        + in_run(one.pending, other.pending)
+        + in_factors(factors, other_factors)
+        + in_dues(dues, other_dues)
+        + in_reconciliation(one.reconciliation, other.reconciliation)
+}

@@ -1,0 +1,50 @@
+-- `journal::lines::put_interest` puts the pieces of the interest of both levels one behind the other. Assumes nothing.
+use native.Mathlib.Omega.{arith}
+use borrow.Author.Needs.{needs}
+use Rattle.journal.proofs.Storing.{puts-then}
+use Rattle.journal.specs.Lines.{answerText}
+use Rattle.journal.proofs.lines.put_interest.Statement.{statement}
+use Rattle.journal.proofs.lines.put_interest.Tie as tie
+
+slice-aggregate-put-word : tie.Need-slice-aggregate-put-word
+slice-aggregate-put-word c = search needs
+
+put-word-requires : tie.Need-put-word-requires
+put-word-requires c κs = search needs
+
+put-cents-requires : tie.Need-put-cents-requires
+put-cents-requires c κs = search needs
+
+slice-aggregate-put-word-2 : tie.Need-slice-aggregate-put-word-2
+slice-aggregate-put-word-2 c = search needs
+
+put-word-requires-2 : tie.Need-put-word-requires-2
+put-word-requires-2 c κs = search needs
+
+put-cents-requires-2 : tie.Need-put-cents-requires-2
+put-cents-requires-2 c κs = search needs
+
+same-length : tie.Need-same-length
+same-length c = search needs
+
+returns : tie.Need-returns
+unfolding answerText
+returns c =
+    let p1 = c .before .before .before .before .before .before .before .before .before .before .before .before .before .before .before .put-word .ensures in
+    let p2 = c .before .before .before .before .before .before .before .before .before .before .before .put-cents .ensures .0 in
+    let p3 = c .before .before .before .before .before .before .put-word2 .ensures in
+    let p4 = c .before .before .put-cents2 .ensures .0 in
+    (puts-then (puts-then (puts-then p1 p2) p3) p4, omega (arith, p1 .counted, p3 .counted, c .before .before .before .before .before .before .before .before .before .before .before .put-cents .ensures .1, c .before .before .put-cents2 .ensures .1))
+
+pub put-interest-spec : {M : Type 1} → statement M
+put-interest-spec =
+    tie.close
+    (tie.spec
+    slice-aggregate-put-word
+    put-word-requires
+    put-cents-requires
+    slice-aggregate-put-word-2
+    put-word-requires-2
+    put-cents-requires-2
+    same-length
+    returns)

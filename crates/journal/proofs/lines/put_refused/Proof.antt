@@ -1,0 +1,31 @@
+-- `journal::lines::put_refused` puts the pieces of a refused opening one behind the other. Assumes nothing.
+use native.Mathlib.Omega.{arith}
+use borrow.Author.Needs.{needs}
+use Rattle.journal.proofs.Storing.{puts-then}
+use Rattle.journal.specs.Lines.{openingRefused}
+use Rattle.journal.proofs.lines.put_refused.Statement.{statement}
+use Rattle.journal.proofs.lines.put_refused.Tie as tie
+
+put-refusal-requires : tie.Need-put-refusal-requires
+put-refusal-requires c κs = search needs
+
+slice-aggregate-put-word : tie.Need-slice-aggregate-put-word
+slice-aggregate-put-word c = search needs
+
+put-word-requires : tie.Need-put-word-requires
+put-word-requires c κs = search needs
+
+same-length : tie.Need-same-length
+same-length c = search needs
+
+returns : tie.Need-returns
+unfolding openingRefused
+returns c =
+    let p1 = c .before .before .before .before .before .before .before .put-refusal .ensures .0 in
+    let p2 = c .before .before .put-word .ensures in
+    (puts-then p1 p2, omega (arith, p2 .counted, c .before .before .before .before .before .before .before .put-refusal .ensures .1))
+
+pub put-refused-spec : {M : Type 1} → statement M
+put-refused-spec =
+    tie.close
+    (tie.spec put-refusal-requires slice-aggregate-put-word put-word-requires same-length returns)

@@ -1,0 +1,30 @@
+-- A line of the journal (01, Text and the journal program): fields are parted by one blank, and the line ends in a line feed.
+use mathlib.Core.List.{List, [], _∷_, _++_}
+use Prim.Native.Nat.{ℕ}
+use Prim.Native.Char.{code}
+use Prim.Native.String as text
+use Rattle.amounts.specs.Text.{decimal, centsText, pointsText}
+use Rattle.postings.specs.declared.Answer.{Answer}
+use Rattle.postings.specs.declared.Answer.the-variants.{Line, FiledLevels, Filed, Interest, Done, Refused}
+
+-- the characters of a text, as their ASCII codes
+abbrev pub ascii : text.String → List ℕ
+ascii text.[] = []
+ascii (text._∷_ c more) = code c ∷ ascii more
+
+-- `line` with cents, `filed` with q for each level, `interest` for both levels, `done`, or `refused` with the number; secondary first
+unfoldable pub answerText : Answer → List ℕ
+answerText (Line cents) = ascii "line " ++ centsText cents
+answerText (FiledLevels secondary primary) = ascii "filed " ++ pointsText secondary ++ ascii " " ++ pointsText primary
+answerText (Filed points) = ascii "filed " ++ pointsText points
+answerText (Interest secondary primary) = ascii "interest " ++ centsText secondary ++ ascii " " ++ centsText primary
+answerText Done = ascii "done"
+answerText (Refused n) = ascii "refused " ++ decimal n
+
+-- a record prints its number, its kind in decimal and the answer
+unfoldable pub lineOf : ℕ → ℕ → Answer → List ℕ
+lineOf number kind answer = decimal number ++ ascii " " ++ decimal kind ++ ascii " " ++ answerText answer ++ ascii "\n"
+
+-- what is printed for an input that opens no book
+unfoldable pub openingRefused : ℕ → List ℕ
+openingRefused n = answerText (Refused n) ++ ascii "\n"

@@ -1,0 +1,4 @@
+//! Random postings for the electric book.
+
+pub mod driver;
+pub mod postings;

@@ -1,0 +1,4 @@
+//! Random postings for the steam book.
+
+pub mod driver;
+pub mod postings;
