@@ -3,55 +3,84 @@ use mathlib.Core.Path.{_≡_, refl, sym, ap, _∙_, subst}
 use mathlib.Core.List.{List, [], _∷_, _++_}
 use Prim.Native.Nat.{ℕ}
 use native.Mathlib.Omega.{arith}
-use lib.IntN.{ℤ, pos, negℤ, _+ℤ_, _-ℤ_, _*ℤ_}
+use lib.IntN.{ℤ, pos, negℤ, _+ℤ_, _-ℤ_}
 use lib.ListN.{length, getD, take}
-use Rattle.ints.specs.Ring.{solve, _:+_, _:*_, _:=_, #}
+use Rattle.ints.specs.Ring.{solve, _:+_, _:=_, #}
 use Rattle.ints.specs.Range.{Between, Within, between-same}
 use Rattle.ints.specs.Bound.{bounds, within-by}
-use Rattle.rounding.specs.Round.{round}
 use Rattle.rounding.specs.Laws.{rounds}
 use Rattle.amounts.specs.Amounts.{cents, points}
-use Rattle.amounts.specs.declared.Cents.{Cents}
 use Rattle.amounts.specs.declared.Points.{Points}
 use Rattle.riders.specs.Lines.{together, lineOf, partOf, no-line}
 use Rattle.steam_rules.specs.declared.SteamBook.{SteamBook}
 use Rattle.steam_rules.specs.Next.{factorsOf, duesLess}
-use Rattle.steam_rules.specs.Fours.{as-four, at}
-use Rattle.steam_rules.specs.Ranges.{BookWithin}
+use Rattle.steam_rules.specs.Fours.{Four, as-four, at}
+use Rattle.steam_rules.specs.Ranges.{PointsWithin, BookWithin}
+use Rattle.steam_runs.specs.declared.bills.Factors.{Factors}
+use Rattle.steam_runs.specs.declared.bills.Totals.{Totals}
 use Rattle.steam_runs.specs.declared.bills.Lines.{Lines}
-use Rattle.steam_runs.specs.Lines.{linesOf}
+use Rattle.steam_runs.specs.Lines.{asFactors, totalsOf, linesOf}
 
--- the factor of run i + 1, and what is due under it
-abbrev pub factorAt : SteamBook → ℕ → ℤ
-factorAt b i = getD (b .factors) i (points (pos 0)) .0
-
+-- what is due under run i + 1
 abbrev pub dueAt : SteamBook → ℕ → ℤ
 dueAt b i = getD (b .dues) i (cents (pos 0)) .0
 
-abbrev pub lastFactor : SteamBook → ℤ
-lastFactor b = b .reconciliation .run .factor .0
+-- ---- the factors up to each run together
 
-pub record FactorsWithin (b : SteamBook) : Type 0 where
-  pub first : Within 99999 (factorAt b 0)
-  pub second : Within 99999 (factorAt b 1)
-  pub third : Within 99999 (factorAt b 2)
-  pub fourth : Within 99999 (factorAt b 3)
-  pub last : Within 99999 (lastFactor b)
+pub same-factors : {a b : ℤ} → a ≡ b → asFactors a ≡ asFactors b
+same-factors e = λ i. asFactors (e i)
 
-pub factors-within : (b : SteamBook) → BookWithin b → FactorsWithin b
-factors-within b w =
-    let fs = w .runs .factors in
-    record {
-      first = at (points (pos 0)) fs 0 (omega arith);
-      second = at (points (pos 0)) fs 1 (omega arith);
-      third = at (points (pos 0)) fs 2 (omega arith);
-      fourth = at (points (pos 0)) fs 3 (omega arith);
-      last = w .runs .reconciliation .factor;
-    }
+pub record TotalsWithin (t : Totals) : Type 0 where
+  pub first : Within 500000 (t .first .0)
+  pub second : Within 500000 (t .second .0)
+  pub third : Within 500000 (t .third .0)
+  pub fourth : Within 500000 (t .fourth .0)
+  pub all : Within 500000 (t .all .0)
 
--- a line at the sum that the machine has read
-pub line-by : {r : Cents} {x : ℤ} (u y : ℤ) → r ≡ cents (round (u *ℤ x) (pos 100)) → x ≡ y → r ≡ cents (round (u *ℤ y) (pos 100))
-line-by u y e f = e ∙ ap (λ (z : ℤ). cents (round (u *ℤ z) (pos 100))) f
+module _ (fs : List Points) (last : Points) where
+  -- the factor of run i + 1
+  abbrev factorAt : ℕ → Points
+  factorAt i = getD fs i (points (pos 0))
+
+  -- the five factors, one by one
+  pub five : length fs ≡ 4 → factorAt 0 ∷ factorAt 1 ∷ factorAt 2 ∷ factorAt 3 ∷ last ∷ [] ≡ fs ++ (last ∷ [])
+  five count = ap (λ (gs : List Points). gs ++ (last ∷ [])) (sym (as-four (points (pos 0)) fs count))
+
+  -- the code's sums, each one factor more than the one before
+  pub totals-are :
+      {one two three four all : Factors} → length fs ≡ 4 → one ≡ asFactors (pos 0 +ℤ factorAt 0 .0) → two ≡ asFactors (one .0 +ℤ factorAt 1 .0) →
+      three ≡ asFactors (two .0 +ℤ factorAt 2 .0) → four ≡ asFactors (three .0 +ℤ factorAt 3 .0) → all ≡ asFactors (four .0 +ℤ last .0) →
+      _≡_ {A = Totals} (record { first = one; second = two; third = three; fourth = four; all = all }) (totalsOf (fs ++ (last ∷ [])))
+  totals-are count e₁ e₂ e₃ e₄ e₅ =
+      let f = factorAt 0 .0 in
+      let g = factorAt 1 .0 in
+      let h = factorAt 2 .0 in
+      let k = factorAt 3 .0 in
+      let s₁ = e₁ ∙ same-factors (solve 1 (λ f. # 0 :+ f := f :+ # 0) tt f) in
+      let s₂ = e₂ ∙ (λ i. asFactors (s₁ i .0 +ℤ g)) ∙ same-factors (solve 2 (λ f g. f :+ # 0 :+ g := f :+ (g :+ # 0)) tt f g) in
+      let s₃ = e₃ ∙ (λ i. asFactors (s₂ i .0 +ℤ h)) ∙ same-factors (solve 3 (λ f g h. f :+ (g :+ # 0) :+ h := f :+ (g :+ (h :+ # 0))) tt f g h) in
+      let s₄ = e₄ ∙ (λ i. asFactors (s₃ i .0 +ℤ k)) ∙ same-factors (solve 4 (λ f g h k. f :+ (g :+ (h :+ # 0)) :+ k := f :+ (g :+ (h :+ (k :+ # 0)))) tt f g h k) in
+      let s₅ =
+      e₅ ∙ (λ i. asFactors (s₄ i .0 +ℤ last .0))
+      ∙ same-factors (solve 5 (λ f g h k l. f :+ (g :+ (h :+ (k :+ # 0))) :+ l := f :+ (g :+ (h :+ (k :+ (l :+ # 0))))) tt f g h k (last .0)) in
+      (λ i. record { first = s₁ i; second = s₂ i; third = s₃ i; fourth = s₄ i; all = s₅ i }) ∙ ap totalsOf (five count)
+
+  pub totals-within : {t : Totals} → Four PointsWithin fs → PointsWithin last → t ≡ totalsOf (fs ++ (last ∷ [])) → TotalsWithin t
+  totals-within w l e =
+      let s = e ∙ ap totalsOf (sym (five (w .count))) in
+      let f = at (points (pos 0)) w 0 (omega arith) in
+      let g = at (points (pos 0)) w 1 (omega arith) in
+      let h = at (points (pos 0)) w 2 (omega arith) in
+      let k = at (points (pos 0)) w 3 (omega arith) in
+      record {
+        first = between-same (λ i. s i .first .0) (within-by (search (bounds, f) depth 30) tt);
+        second = between-same (λ i. s i .second .0) (within-by (search (bounds, f, g) depth 30) tt);
+        third = between-same (λ i. s i .third .0) (within-by (search (bounds, f, g, h) depth 30) tt);
+        fourth = between-same (λ i. s i .fourth .0) (within-by (search (bounds, f, g, h, k) depth 30) tt);
+        all = between-same (λ i. s i .all .0) (within-by (search (bounds, f, g, h, k, l) depth 30) tt);
+      }
+
+-- ---- the lines
 
 module _ (u : ℤ) (b : SteamBook) where
   -- the line of the first runs
@@ -59,45 +88,9 @@ module _ (u : ℤ) (b : SteamBook) where
   lineUpTo i = lineOf u (take i (factorsOf b))
 
   module _ (count : length (b .factors) ≡ 4) where
-    -- the five factors, one by one
-    abbrev listed : List Points
-    listed =
-        getD (b .factors) 0 (points (pos 0)) ∷ getD (b .factors) 1 (points (pos 0)) ∷ getD (b .factors) 2 (points (pos 0)) ∷ getD (b .factors) 3 (points (pos 0))
-        ∷ b .reconciliation .run .factor
-        ∷ []
-
-    five : listed ≡ factorsOf b
-    five = ap (λ (fs : List Points). fs ++ (b .reconciliation .run .factor ∷ [])) (sym (as-four (points (pos 0)) (b .factors) count))
-
-    by-sum : (i : ℕ) (x : ℤ) → u *ℤ x ≡ u *ℤ together (take i listed) → round (u *ℤ x) (pos 100) ≡ lineUpTo i
-    unfolding lineOf
-    by-sum i x e = ap (λ (z : ℤ). round z (pos 100)) e ∙ ap (λ (fs : List Points). lineOf u (take i fs)) five
-
-    pub line-1 : round (u *ℤ factorAt b 0) (pos 100) ≡ lineUpTo 1
-    line-1 = by-sum 1 _ (solve 2 (λ u f. u :* f := u :* (f :+ # 0)) tt u (factorAt b 0))
-
-    pub line-2 : round (u *ℤ (factorAt b 0 +ℤ factorAt b 1)) (pos 100) ≡ lineUpTo 2
-    line-2 = by-sum 2 _ (solve 3 (λ u f g. u :* (f :+ g) := u :* (f :+ (g :+ # 0))) tt u (factorAt b 0) (factorAt b 1))
-
-    pub line-3 : round (u *ℤ (factorAt b 0 +ℤ factorAt b 1 +ℤ factorAt b 2)) (pos 100) ≡ lineUpTo 3
-    line-3 =
-        by-sum 3 _ (solve 4 (λ u f g h. u :* (f :+ g :+ h) := u :* (f :+ (g :+ (h :+ # 0)))) tt u (factorAt b 0) (factorAt b 1) (factorAt b 2))
-
-    pub line-4 : round (u *ℤ (factorAt b 0 +ℤ factorAt b 1 +ℤ factorAt b 2 +ℤ factorAt b 3)) (pos 100) ≡ lineUpTo 4
-    line-4 =
-        by-sum 4 _
-        (solve 5 (λ u f g h k. u :* (f :+ g :+ h :+ k) := u :* (f :+ (g :+ (h :+ (k :+ # 0))))) tt u (factorAt b 0) (factorAt b 1) (factorAt b 2) (factorAt b 3))
-
     -- all five make the bill's own line
     all-five : lineUpTo 5 ≡ lineOf u (factorsOf b)
-    all-five = subst (λ (fs : List Points). lineOf u (take 5 fs) ≡ lineOf u fs) five refl
-
-    pub line-5 : round (u *ℤ (factorAt b 0 +ℤ factorAt b 1 +ℤ factorAt b 2 +ℤ factorAt b 3 +ℤ lastFactor b)) (pos 100) ≡ lineOf u (factorsOf b)
-    line-5 =
-        by-sum 5 _
-        (solve 6 (λ u f g h k r. u :* (f :+ g :+ h :+ k :+ r) := u :* (f :+ (g :+ (h :+ (k :+ (r :+ # 0)))))) tt
-        u (factorAt b 0) (factorAt b 1) (factorAt b 2) (factorAt b 3) (lastFactor b))
-        ∙ all-five
+    all-five = subst (λ (fs : List Points). lineOf u (take 5 fs) ≡ lineOf u fs) (five (b .factors) (b .reconciliation .run .factor) count) refl
 
     -- ---- what each run loses
 
@@ -130,19 +123,17 @@ module _ (u : ℤ) (b : SteamBook) where
     pub fourth : Within 60000000000 (lines .fourth .0)
     pub all : Within 60000000000 (lines .all .0)
 
+  line-within : (fs : List Points) → Between (negℤ (pos 10000000)) (pos 10000000) u → Within 500000 (together fs) → Within 60000000000 (lineOf u fs)
+  unfolding lineOf
+  line-within fs us h = within-by (search (bounds, rounds, us, h) depth 30) tt
+
   pub lines-within : (lines : Lines) → BookWithin b → Between (negℤ (pos 10000000)) (pos 10000000) u → lines ≡ linesOf u (factorsOf b) → LinesWithin lines
   lines-within lines w us e =
-      let fs = factors-within b w in
-      let one = fs .first in
-      let two = fs .second in
-      let three = fs .third in
-      let four = fs .fourth in
-      let five = fs .last in
-      let count = w .runs .factors .count in
+      let t = totals-within (b .factors) (b .reconciliation .run .factor) {t = totalsOf (factorsOf b)} (w .runs .factors) (w .runs .reconciliation .factor) refl in
       record {
-        first = between-same ((λ i. e i .first .0) ∙ sym (line-1 count)) (within-by (search (bounds, rounds, us, one) depth 30) tt);
-        second = between-same ((λ i. e i .second .0) ∙ sym (line-2 count)) (within-by (search (bounds, rounds, us, one, two) depth 30) tt);
-        third = between-same ((λ i. e i .third .0) ∙ sym (line-3 count)) (within-by (search (bounds, rounds, us, one, two, three) depth 30) tt);
-        fourth = between-same ((λ i. e i .fourth .0) ∙ sym (line-4 count)) (within-by (search (bounds, rounds, us, one, two, three, four) depth 30) tt);
-        all = between-same ((λ i. e i .all .0) ∙ sym (line-5 count)) (within-by (search (bounds, rounds, us, one, two, three, four, five) depth 30) tt);
+        first = between-same (λ i. e i .first .0) (line-within _ us (t .first));
+        second = between-same (λ i. e i .second .0) (line-within _ us (t .second));
+        third = between-same (λ i. e i .third .0) (line-within _ us (t .third));
+        fourth = between-same (λ i. e i .fourth .0) (line-within _ us (t .fourth));
+        all = between-same (λ i. e i .all .0) (line-within _ us (t .all));
       }

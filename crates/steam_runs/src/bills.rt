@@ -1,11 +1,13 @@
 // A bill: its line, and what each run loses of its due cents.
 use amounts::Cents;
+use amounts::Points;
 use postings::Book;
 use postings::Posting;
 use steam_rules::Reconciliation;
 use steam_rules::SteamBook;
 ghost use mathlib.Core.Path.{_≡_};
-ghost use lib.IntN.{pos, _-ℤ_, _*ℤ_};
+ghost use mathlib.Core.List.{[], _∷_, _++_};
+ghost use lib.IntN.{pos, _+ℤ_, _-ℤ_, _*ℤ_};
 ghost use Rattle.ints.specs.Range.{Within};
 ghost use Rattle.rounding.specs.Round.{round};
 ghost use Rattle.amounts.specs.Amounts.{cents};
@@ -15,14 +17,24 @@ ghost use Rattle.riders.specs.Lines.{partOf};
 ghost use Rattle.riders.specs.Runs.{dueLess};
 ghost use Rattle.steam_rules.specs.Book.{reconciliationOf};
 ghost use Rattle.steam_rules.specs.Next.{factorsOf, duesLess};
-ghost use Rattle.steam_rules.specs.Ranges.{BookWithin};
-ghost use Rattle.steam_runs.specs.Lines.{linesOf};
+ghost use Rattle.steam_rules.specs.Fours.{Four};
+ghost use Rattle.steam_rules.specs.Ranges.{PointsWithin, BookWithin};
+ghost use Rattle.steam_runs.specs.Lines.{asFactors, totalsOf, linesOf};
 
 // Points to a cent, since a point is $0.0001.
 const POINTS: i64 = 100;
 
 // Factors together.
 struct Factors(i64);
+
+// The factors up to each run together; the last are all five.
+struct Totals {
+    first: Factors,
+    second: Factors,
+    third: Factors,
+    fourth: Factors,
+    all: Factors,
+}
 
 // The lines of the factors up to each run; the last is the bill's own.
 pub struct Lines {
@@ -40,25 +52,42 @@ fn line_at(posting: Posting, factors: Factors) -> Cents
     Cents(rounding::round_div(posting.first * factors.0, POINTS))
 }
 
+fn with_run(before: Factors, factor: Points) -> Factors
+    requires { ⌜ Within 500000 (before .0) × PointsWithin factor ⌝ }
+    ensures { λ r. ⌜ r ≡ asFactors (before .0 +ℤ factor .0) ⌝ }
+{
+    Factors(before.0 + factor.0 as i64)
+}
+
+fn totals_of(factors: [Points; 4], last: Points) -> Totals
+    requires { ⌜ Four PointsWithin factors × PointsWithin last ⌝ }
+    ensures { λ r. ⌜ r ≡ totalsOf (factors ++ (last ∷ [])) ⌝ }
+{
+    let first = with_run(Factors(0), factors[0]);
+    let second = with_run(first, factors[1]);
+    let third = with_run(second, factors[2]);
+    let fourth = with_run(third, factors[3]);
+    Totals {
+        first,
+        second,
+        third,
+        fourth,
+        all: with_run(fourth, last),
+    }
+}
+
 pub fn lines_of(book: SteamBook, posting: Posting) -> Lines
     requires { ⌜ BookWithin book × Ranged Book.Steam bill posting ⌝ }
     ensures { λ r. ⌜ r ≡ linesOf (posting .first) (factorsOf book) ⌝ }
 {
-    let run_1 = book.factors[0];
-    let run_2 = book.factors[1];
-    let run_3 = book.factors[2];
-    let run_4 = book.factors[3];
-    let one = run_1.0 as i64;
-    let two = one + run_2.0 as i64;
-    let three = two + run_3.0 as i64;
-    let four = three + run_4.0 as i64;
-    let five = four + book.reconciliation.run.factor.0 as i64;
+    let factors = book.factors;
+    let totals = totals_of(factors, book.reconciliation.run.factor);
     Lines {
-        first: line_at(posting, Factors(one)),
-        second: line_at(posting, Factors(two)),
-        third: line_at(posting, Factors(three)),
-        fourth: line_at(posting, Factors(four)),
-        all: line_at(posting, Factors(five)),
+        first: line_at(posting, totals.first),
+        second: line_at(posting, totals.second),
+        third: line_at(posting, totals.third),
+        fourth: line_at(posting, totals.fourth),
+        all: line_at(posting, totals.all),
     }
 }
 
