@@ -137,3 +137,28 @@ fn assert_each_record<'a>(
         "{name}: a record without an answer"
     );
 }
+
+/// A program under proof is run on files of its own crate, so `crates/journals` has a copy of each example.
+#[test]
+fn the_proved_program_is_run_on_these_examples() {
+    let crate_folder = folder().join("../crates/journals");
+    let read = |name: &str| fs::read(crate_folder.join(name)).unwrap();
+    let arguments = String::from_utf8(read("args")).unwrap();
+    let mut expected = Vec::new();
+    for file in arguments.lines() {
+        let name = file.strip_suffix(".journal").unwrap();
+        assert_eq!(
+            read(&format!("data/{file}")),
+            bytes(name, "journal"),
+            "{file}"
+        );
+        expected.extend(format!("== {file}\n").bytes());
+        expected.extend(bytes(name, "printed"));
+    }
+    assert_eq!(read("stdout"), expected);
+    let named: BTreeSet<String> = arguments.lines().map(str::to_string).collect();
+    let all = names("journal")
+        .into_iter()
+        .map(|name| format!("{name}.journal"));
+    assert_eq!(named, all.collect());
+}
