@@ -60,7 +60,7 @@ pub fn first_difference(proved: &[u8], twin: &[u8]) -> Option<Difference> {
 
 /// So many bytes are room enough for all that is printed for the input.
 pub fn room(input: &[u8]) -> usize {
-    38 * input.len() + 76
+    41 * input.len() + 82
 }
 
 /// What the twin prints for the input, if the side writes just that; else what is wrong.

@@ -8,9 +8,6 @@ ghost use Rattle.electric_rules.specs.Book.{refused};
 ghost use Rattle.electric_rules.specs.Refusals.{postOf};
 
 mod effects;
-mod filing;
-mod levels;
-mod settlement;
 
 fn refuse(book: ElectricBook, number: u8) -> Posted
     ensures { λ r. ⌜ r ≡ refused book number ⌝ }
@@ -30,7 +27,7 @@ pub fn post(book: ElectricBook, posting: Posting) -> Posted
         return refuse(book, number);
     }
     let posted = effects::effect(book, posting);
-    if !electric_refusals::limits::in_limits(posted.book) {
+    if !electric_limits::in_limits(posted.book) {
         return refuse(book, 12);
     }
     posted

@@ -1,5 +1,4 @@
-// The refusal table of the electric book, up to the rows that look at the next book, and what those and the effects share: the calendar
-// and the limits.
+// The refusal table of the electric book, up to the rows that look at the next book.
 use electric_rules::ElectricBook;
 use postings::Book;
 use postings::Posting;
@@ -9,9 +8,6 @@ ghost use Rattle.refusals.specs.Rows.{refusalBy};
 ghost use Rattle.postings.specs.Kinds.{kindOf};
 ghost use Rattle.electric_rules.specs.Limits.{inLimits};
 ghost use Rattle.electric_rules.specs.Refusals.{nothingSold, rowsBefore};
-
-pub mod calendar;
-pub mod limits;
 
 // Refusal 10: a settlement of no sales.
 fn sold_nothing(book: ElectricBook, posting: Posting) -> bool
@@ -34,13 +30,17 @@ pub fn refusal_before(book: ElectricBook, posting: Posting) -> u8
     if postings::stray_number(Book::Electric, posting) {
         return 3;
     }
-    if !limits::in_limits(book) {
+    if !electric_limits::in_limits(book) {
         return 6;
     }
     if postings::out_of_range(Book::Electric, posting) {
         return 7;
     }
-    if riders::months::is_forbidden(posting, calendar::settles(book.month), book.settled) {
+    if riders::months::is_forbidden(
+        posting,
+        electric_limits::calendar::settles(book.month),
+        book.settled,
+    ) {
         return 8;
     }
     if sold_nothing(book, posting) {

@@ -1,4 +1,5 @@
 -- The electric book (01, Electric book): amounts put together, the fresh book and the opening.
+use mathlib.Core.Path.{_≡_}
 use mathlib.Core.Bool.{false}
 use mathlib.Core.List.{[], _∷_}
 use Prim.Native.Nat.{ℕ}
@@ -57,3 +58,7 @@ freshOf division =
 -- 7: an opening out of range hands back L&P
 unfoldable pub openedOf : ℕ → Posted
 openedOf division = byTable (row 7 (ltb 1 division) ∷ []) (posted Done (freshOf division)) (refused (freshOf 0))
+
+-- a remainder is the same where its number is
+pub same-remainder : {a b : ℤ} → a ≡ b → remainder a ≡ remainder b
+same-remainder e = λ i. remainder (e i)

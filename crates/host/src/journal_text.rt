@@ -1,14 +1,15 @@
 // The journal for a host: bytes in, text into a lent buffer.
 use refusals::Written;
 ghost use mathlib.Core.Path.{_≡_};
+ghost use Prim.Native.Nat.{_≤_};
 ghost use lib.ListN.{length};
 ghost use Rattle.amounts.specs.Text.{textWritten, textLeft};
-ghost use Rattle.journal.specs.Journal.{journalOf};
+ghost use Rattle.journal.specs.Journal.{journalOf, roomOf};
 
-// How many bytes the journal of the input is.
+// How many bytes the journal of the input is, which is no more than there is room enough for.
 #[no_mangle]
 pub extern "C" fn neapscroll_journal_length(input: &[u8]) -> usize
-    ensures { λ r. ⌜ r ≡ length (journalOf (now (input .entry))) ⌝ }
+    ensures { λ r. ⌜ (r ≡ length (journalOf (now (input .entry)))) × (r ≤ roomOf (length (now (input .entry)))) ⌝ }
 {
     journal::length(input)
 }

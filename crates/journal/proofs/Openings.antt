@@ -9,8 +9,7 @@ use lib.ListN.{length}
 use borrow.Author.Tests.{ltb-false, lt-ltb, le-ltb, eq-eqb, ne-eqb}
 use Rattle.refusals.specs.Laws.{at-row, past-row, accepted, gives-asked, gives-refusal}
 use Rattle.journal.specs.Lines.{openingRefused}
-use Rattle.journal.specs.Journal.{journalRows, journalOf, opensSteam, badOpening, badQuarters, firstByte, steamRun, electricRun}
-use Rattle.journal.specs.Steps.{roomOf}
+use Rattle.journal.specs.Journal.{journalRows, journalOf, opensSteam, badOpening, badQuarters, firstByte, steamRun, electricRun, roomOf}
 
 pub room-some : (n : ℕ) → 82 ≤ roomOf n
 unfolding roomOf

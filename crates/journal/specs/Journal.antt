@@ -1,7 +1,7 @@
 -- What the journal program prints for an input (01, Text and the journal program).
 use mathlib.Core.Bool.{Bool, cond, not, _||_}
 use mathlib.Core.List.{List, [], _∷_, _++_}
-use Prim.Native.Nat.{ℕ, zero, suc, _+_}
+use Prim.Native.Nat.{ℕ, zero, suc, _+_, _*_}
 use lib.Dec.{eqb, leb, ltb}
 use lib.ListN.{length, getD, drop}
 use Rattle.refusals.specs.Rows.{Row, row, byTable}
@@ -80,3 +80,7 @@ journalRows bytes = row 7 (ltb 65536 (length bytes)) ∷ row 1 (eqb (length byte
 
 unfoldable pub journalOf : List ℕ → List ℕ
 journalOf bytes = byTable (journalRows bytes) (cond (opensSteam bytes) (steamRun bytes) (electricRun bytes)) openingRefused
+
+-- room enough for what is printed for so many bytes: a record has two bytes at least, and its line 82 at most
+unfoldable pub roomOf : ℕ → ℕ
+roomOf count = cond (ltb 65536 count) 82 (41 * count + 82)

@@ -6,8 +6,8 @@ ghost use mathlib.Core.Path.{_≡_};
 ghost use Prim.Native.Nat.{_≤_};
 ghost use lib.ListN.{length};
 ghost use Rattle.amounts.specs.Text.{textWritten, textLeft};
-ghost use Rattle.journal.specs.Journal.{journalOf};
-ghost use Rattle.journal.specs.Steps.{Puts, roomOf};
+ghost use Rattle.journal.specs.Journal.{journalOf, roomOf};
+ghost use Rattle.journal.specs.Steps.{Puts};
 
 mod electric_run;
 mod lines;
@@ -54,9 +54,9 @@ fn put_journal(input: &[u8], buffer: &mut [u8]) -> usize
     electric_run::run(opened.book, input, buffer)
 }
 
-// How many bytes the journal of the input is.
+// How many bytes the journal of the input is, which is no more than there is room enough for.
 pub fn length(input: &[u8]) -> usize
-    ensures { λ r. ⌜ r ≡ length (journalOf (now (input .entry))) ⌝ }
+    ensures { λ r. ⌜ (r ≡ length (journalOf (now (input .entry)))) × (r ≤ roomOf (length (now (input .entry)))) ⌝ }
 {
     let mut none = [0; 1];
     put_journal(input, &mut none)

@@ -66,11 +66,11 @@ fn post_bill(book: SteamBook, posting: Posting) -> Posted
     requires { ⌜ BookWithin book × Ranged Book.Steam bill posting ⌝ }
     ensures { λ r. ⌜ r ≡ effectAt bill book posting ⌝ }
 {
-    let lines = crate::bills::lines_of(book, posting);
-    let dues = crate::bills::dues_less(book, posting, lines);
+    let lines = steam_runs::bills::lines_of(book, posting);
+    let dues = steam_runs::bills::dues_less(book, posting, lines);
     let mut next = book;
     next.dues = dues;
-    next.reconciliation = crate::bills::reconciliation_less(book, posting, lines);
+    next.reconciliation = steam_runs::bills::reconciliation_less(book, posting, lines);
     let line = lines.all;
     Posted {
         answer: Answer::Line(line),
@@ -84,19 +84,19 @@ fn post_settlement(book: SteamBook, posting: Posting) -> Posted
     ensures { λ r. ⌜ StoredAs book r (effectAt settle book posting) ⌝ }
 {
     let past = book.quarters;
-    let shareable = crate::settlement::shareable_of(book.period);
-    let share = crate::settlement::share_of(book.period, shareable);
-    let determinants = steam_refusals::determinants::determinants_of(
+    let shareable = steam_settlement::shareable_of(book.period);
+    let share = steam_settlement::share_of(book.period, shareable);
+    let determinants = steam_settlement::determinants::determinants_of(
         book.period.sales,
         past,
         Mmbtu(posting.first),
     );
-    let factor = crate::filing::factor_for(share, determinants);
-    let period = crate::settlement::period_after(book.period, shareable, share);
-    let quarters = crate::settlement::shifted(past, book.period.sales);
+    let factor = steam_settlement::filing::factor_for(share, determinants);
+    let period = steam_settlement::period_after(book.period, shareable, share);
+    let quarters = steam_settlement::shifted(past, book.period.sales);
     Posted {
         answer: Answer::Filed(factor),
-        book: crate::settlement::settled_with(book, period, quarters, Run { factor, due: share }),
+        book: steam_settlement::settled_with(book, period, quarters, Run { factor, due: share }),
     }
 }
 
@@ -104,8 +104,8 @@ fn post_month_end(book: SteamBook, posting: Posting) -> Posted
     requires { ⌜ BookWithin book ⌝ }
     ensures { λ r. ⌜ r ≡ effectAt monthEnd book posting ⌝ }
 {
-    let run = steam_refusals::calendar::entering(book.month);
-    let mut next = crate::month_ends::reconciled(crate::month_ends::entered(run, book));
+    let run = steam_limits::calendar::entering(book.month);
+    let mut next = steam_runs::month_ends::reconciled(steam_runs::month_ends::entered(run, book));
     next.month = riders::months::month_after(book.month);
     next.settled = false;
     Posted {
@@ -132,7 +132,7 @@ fn post_reconciliation(book: SteamBook, posting: Posting) -> Posted
     requires { ⌜ BookWithin book × Ranged Book.Steam reconcile posting ⌝ }
     ensures { λ r. ⌜ StoredAs book r (effectAt reconcile book posting) ⌝ }
 {
-    let factor = crate::filing::factor_for(book.carried, Mmbtu(posting.second));
+    let factor = steam_settlement::filing::factor_for(book.carried, Mmbtu(posting.second));
     let due = book.carried;
     let run = Run { factor, due };
     let reconciliation = Reconciliation {

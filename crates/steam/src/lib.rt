@@ -7,11 +7,7 @@ ghost use mathlib.Core.Path.{_≡_};
 ghost use Rattle.steam_rules.specs.Book.{refused};
 ghost use Rattle.steam_rules.specs.Refusals.{postOf};
 
-mod bills;
 mod effects;
-mod filing;
-mod month_ends;
-mod settlement;
 
 fn refuse(book: SteamBook, number: u8) -> Posted
     ensures { λ r. ⌜ r ≡ refused book number ⌝ }
@@ -31,7 +27,7 @@ pub fn post(book: SteamBook, posting: Posting) -> Posted
         return refuse(book, number);
     }
     let posted = effects::effect(book, posting);
-    if !steam_refusals::limits::in_limits(posted.book) {
+    if !steam_limits::in_limits(posted.book) {
         return refuse(book, 12);
     }
     posted

@@ -1,5 +1,4 @@
-// The refusal table of the steam book, up to the rows that look at the next book, and what those and the effects share: the calendar, the
-// limits and the billing determinants.
+// The refusal table of the steam book, up to the rows that look at the next book.
 use postings::Book;
 use postings::Posting;
 use steam_rules::Mmbtu;
@@ -11,10 +10,6 @@ ghost use Rattle.postings.specs.Kinds.{kindOf};
 ghost use Rattle.postings.specs.Ranged.{Ranged};
 ghost use Rattle.steam_rules.specs.Limits.{inLimits};
 ghost use Rattle.steam_rules.specs.Refusals.{stillRuns, nothingSold, tooSmall, rowsBefore};
-
-pub mod calendar;
-pub mod determinants;
-pub mod limits;
 
 // Refusal 9: a reconciliation while one runs.
 fn still_runs(book: SteamBook, posting: Posting) -> bool
@@ -34,7 +29,11 @@ fn sold_nothing(book: SteamBook, posting: Posting) -> bool
     if posting.kind == 4 {
         let quarters = book.quarters;
         let adjustment = Mmbtu(posting.first);
-        let determinants = determinants::determinants_of(book.period.sales, quarters, adjustment);
+        let determinants = steam_settlement::determinants::determinants_of(
+            book.period.sales,
+            quarters,
+            adjustment,
+        );
         return (book.period.sales.0 == 0) | (determinants.0 < 1);
     }
     false
@@ -62,13 +61,17 @@ pub fn refusal_before(book: SteamBook, posting: Posting) -> u8
     if postings::stray_number(Book::Steam, posting) {
         return 3;
     }
-    if !limits::in_limits(book) {
+    if !steam_limits::in_limits(book) {
         return 6;
     }
     if postings::out_of_range(Book::Steam, posting) {
         return 7;
     }
-    if riders::months::is_forbidden(posting, calendar::settles(book.month), book.settled) {
+    if riders::months::is_forbidden(
+        posting,
+        steam_limits::calendar::settles(book.month),
+        book.settled,
+    ) {
         return 8;
     }
     if still_runs(book, posting) {

@@ -16,16 +16,16 @@ use Rattle.riders.specs.Months.{forbidden}
 use Rattle.riders.specs.Histories.{wasAccepted, lineAnswered, kept-after}
 use Rattle.riders.specs.Balances.{line-billed, amount-added, cents-moved}
 use Rattle.riders.specs.Waiting.{none-pending}
-use Rattle.steam_rules.proofs.Waiting.{enters, clear, settle-clear, month-turns, entering-to}
+use Rattle.steam_rules.proofs.Waiting.{enters, clear, settle-clear, month-turns}
 use Rattle.steam_rules.proofs.Found.{dates, four-factors, four-dues, none-due}
 use Rattle.steam_rules.proofs.Held.{held-billed, held-settled, held-entered, held-reconciled, held-adjusted, held-reconciling}
 use Rattle.steam_rules.proofs.Shares.{Shared, settled-shared}
+use Rattle.steam_rules.specs.Calendar.{entering-to, settles, entering}
 use Rattle.steam_rules.specs.declared.Mmbtu.{Mmbtu}
 use Rattle.steam_rules.specs.declared.Period.{Period}
 use Rattle.steam_rules.specs.declared.SteamBook.{SteamBook}
 use Rattle.steam_rules.specs.declared.Posted.{Posted}
 use Rattle.steam_rules.specs.Book.{mmbtu, periodOf, posted, refused, four, freshOf}
-use Rattle.steam_rules.specs.Calendar.{settles, entering}
 use Rattle.steam_rules.specs.Settlement.{shareOf, remainderAfter}
 use Rattle.steam_rules.specs.Next.{withPeriod, costPosted, salesPosted, billLine, billPosted, settlePosted, entered, monthLost, reconciled, monthEnded, adjustPosted, reconcilePosted, nextAt, answerAt}
 use Rattle.steam_rules.specs.Limits.{inLimits}
@@ -133,7 +133,7 @@ module _ (b : SteamBook) (t : Tally) (p : Posting) (k : Kept b t) where
         period = lost-period months e ∙ entered-period n b ∙ k .period;
         balances =
             cents-moved (t .billed) (heldBy b) (k .balances)
-            (held-reconciled e ∙ held-entered b n (four-dues b limits) (entering-to (b .month) (b .settled) (dates b limits)));
+            (held-reconciled e ∙ held-entered b n (four-dues b limits) (entering-to (b .month)));
         pending =
             λ c.
             (λ i. (lost-pending months e ∙ entered-pending n b) i .due .0)

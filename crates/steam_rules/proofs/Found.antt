@@ -2,24 +2,21 @@
 -- month left. Assumes nothing.
 use mathlib.Core.Path.{_≡_, sym, ap, _∙_}
 use mathlib.Core.Bool.{Bool, true, false, not, _&&_, _||_}
-use mathlib.Core.List.{List}
 use lib.Dec.{leb, eqb}
 use lib.IntN.{pos}
 use lib.ListN.{length}
-use borrow.Author.Tests.{eqb-true, not-false}
+use borrow.Author.Tests.{not-false}
 use Rattle.ints.specs.Flags.{both}
 use Rattle.ints.specs.Machine.{eqZ, eqZ-true}
 use Rattle.postings.specs.Kinds.{reconcile}
 use Rattle.riders.specs.Months.{monthInLimits}
 use Rattle.riders.specs.Runs.{runInLimits}
-use Rattle.amounts.specs.Amounts.{centsInLimits, pointsInLimits}
+use Rattle.amounts.specs.Amounts.{centsInLimits}
 use Rattle.steam_rules.specs.declared.SteamBook.{SteamBook}
 use Rattle.steam_rules.specs.Calendar.{settles}
-use Rattle.steam_rules.specs.Limits.{all, allFour, periodInLimits, quartersInLimits, factorsInLimits, duesInLimits, reconciliationInLimits, runsInLimits, inLimits}
+use Rattle.steam_rules.specs.Limits.{periodInLimits, quartersInLimits, factorsInLimits, duesInLimits, reconciliationInLimits, runsInLimits, inLimits}
+use Rattle.steam_rules.specs.Ranges.{BookWithin, book-within}
 use Rattle.steam_rules.specs.Refusals.{stillRuns}
-
-four-long : {A : Type 0} (test : A → Bool) (xs : List A) → allFour test xs ≡ true → length xs ≡ 4
-four-long test xs e = eqb-true (length xs) 4 (both (eqb (length xs) 4) (all test xs) e .0)
 
 module _ (b : SteamBook) (limits : not (inLimits b) ≡ false) where
   pub dates : monthInLimits (b .month) (settles (b .month)) (b .settled) ≡ true
@@ -32,19 +29,18 @@ module _ (b : SteamBook) (limits : not (inLimits b) ≡ false) where
       both (centsInLimits (b .carried)) _ (both (quartersInLimits (b .quarters)) _ (both (periodInLimits (b .period)) _
       (both (monthInLimits (b .month) (settles (b .month)) (b .settled)) _ (not-false _ limits) .1) .1) .1) .1
 
-  in-runs : (factorsInLimits (b .factors) ≡ true) × ((duesInLimits (b .dues) ≡ true) × (reconciliationInLimits (b .reconciliation) ≡ true))
-  unfolding runsInLimits
-  in-runs =
-      let later = both (factorsInLimits (b .factors)) _ (both (runInLimits (b .pending)) _ runs .1) in
-      (later .0, both (duesInLimits (b .dues)) _ (later .1))
+  found : BookWithin b
+  found = book-within b (not-false _ limits)
 
   pub four-factors : length (b .factors) ≡ 4
-  unfolding factorsInLimits
-  four-factors = four-long pointsInLimits (b .factors) (in-runs .0)
+  four-factors = found .runs .factors .count
 
   pub four-dues : length (b .dues) ≡ 4
-  unfolding duesInLimits
-  four-dues = four-long centsInLimits (b .dues) (in-runs .1 .0)
+  four-dues = found .runs .dues .count
+
+  reconciliation : reconciliationInLimits (b .reconciliation) ≡ true
+  unfolding runsInLimits
+  reconciliation = both (duesInLimits (b .dues)) _ (both (factorsInLimits (b .factors)) _ (both (runInLimits (b .pending)) _ runs .1) .1) .1
 
   -- where none runs, a reconciliation may begin
   pub none-due : stillRuns reconcile b ≡ false → b .reconciliation .run .due .0 ≡ pos 0
@@ -52,6 +48,6 @@ module _ (b : SteamBook) (limits : not (inLimits b) ≡ false) where
   none-due free =
       let r = b .reconciliation in
       let none : eqb (r .months) 0 ≡ true = not-false _ free in
-      let rest = both (runInLimits (r .run)) _ (both (leb (r .months) 24) _ (in-runs .1 .1) .1) .1 in
+      let rest = both (runInLimits (r .run)) _ (both (leb (r .months) 24) _ reconciliation .1) .1 in
       let nothing = ap (λ (none : Bool). not none || (eqZ (r .run .factor .0) (pos 0) && eqZ (r .run .due .0) (pos 0))) (sym none) ∙ rest in
       eqZ-true (r .run .due .0) (pos 0) (both (eqZ (r .run .factor .0) (pos 0)) _ nothing .1)

@@ -1,12 +1,10 @@
 -- When nothing can be pending on the steam book, by its calendar. Assumes nothing.
 use mathlib.Core.Path.{_≡_}
 use mathlib.Core.Bool.{Bool, true, false}
-use Prim.Native.Nat.{ℕ, zero, suc, _≤_}
-use native.Mathlib.Omega.{arith}
-use lib.Dec.{T, leb, leb→le}
-use Rattle.ints.specs.Flags.{all-below}
+use Prim.Native.Nat.{ℕ, zero, suc}
+use lib.Dec.{T}
 use Rattle.postings.specs.Kinds.{settle, monthEnd}
-use Rattle.riders.specs.Months.{monthAfter, monthInLimits, forbidden, month-to}
+use Rattle.riders.specs.Months.{monthAfter, monthInLimits, forbidden}
 use Rattle.steam_rules.specs.Calendar.{settles, entering}
 use Rattle.riders.specs.Waiting as waiting
 
@@ -29,10 +27,3 @@ module _ (month : ℕ) (settled : Bool) where
     pub month-turns : forbidden monthEnd (settles month) settled ≡ false → T (turns month settled)
     unfolding waiting.clear settles entering monthAfter
     month-turns = waiting.month-turns settles entering enters tt month settled limits
-
-    -- there are four runs
-    pub entering-to : entering month ≤ 4
-    unfolding entering
-    entering-to =
-        let to = month-to (settles month) settled month limits in
-        leb→le (entering month) 4 (all-below 13 (λ (month : ℕ). leb (entering month) 4) tt month (omega arith))

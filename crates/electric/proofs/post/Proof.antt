@@ -2,41 +2,33 @@
 use mathlib.Core.Path.{_≡_, sym, _∙_}
 use borrow.Author.Tests.{not-true, not-false}
 use borrow.Author.Needs.{needs}
-use Rattle.electric_rules.specs.Book.{refused}
+use Rattle.postings.specs.declared.Book.the-variants.{Electric}
+use Rattle.electric_rules.specs.Book.{posted, refused}
 use Rattle.electric_rules.specs.Limits.{inLimits}
 use Rattle.electric_rules.specs.declared.Posted.{Posted}
-use Rattle.electric_rules.specs.Refusals.{postOf}
-use Rattle.electric.proofs.Ready.{refused-is, known, book-ready, posting-ready, stored-is}
+use Rattle.electric_rules.specs.Refusals.{rowsBefore, postOf}
+use Rattle.electric_rules.specs.Next.{nextOf, answerOf}
+use Rattle.electric_rules.specs.Ranges.{book-within}
 use Rattle.electric.proofs.post.Statement.{statement}
 use Rattle.electric.specs.Stored.{storedOr12}
 use Rattle.riders.specs.Posts as posts
 use Rattle.electric.proofs.post.Tie as tie
 
-refusal-before-requires : tie.Need-refusal-before-requires
-refusal-before-requires c κs = search needs
-
-refuse-requires : tie.Need-refuse-requires
-refuse-requires c κs = search needs
-
 returns : tie.Need-returns
-returns c = c .refuse .ensures ∙ refused-is (c .before .before .before .args .book) (c .before .before .before .args .posting) (c .before .before .refusal-before .ensures) (c .before .if1 .taken)
+unfolding postOf
+returns c = let s = c .before .before .before .args in
+    c .refuse .ensures ∙ posts.refused-before inLimits (λ (r : Posted). r .book) refused (rowsBefore (s .book) (s .posting)) tt (s .book) (posted (answerOf (s .book) (s .posting)) (nextOf (s .book) (s .posting))) (c .before .before .refusal-before .ensures) (c .before .if1 .taken)
 
 effect-requires : tie.Need-effect-requires
-effect-requires c κs = let b = c .before .before .args .book in
-    let p = c .before .before .args .posting in
-    let e = c .before .refusal-before .ensures in
-    (book-ready b p e (c .if1 .left), posting-ready b p e (c .if1 .left), known b p e (c .if1 .left))
+effect-requires c κs = let s = c .before .before .args in
+    let shown = posts.shown Electric inLimits (s .book) (s .posting) _ tt (c .before .refusal-before .ensures) (c .if1 .left) in
+    (book-within (s .book) (shown .0), shown .1, shown .2)
 
 given : (c : tie.After-effect) → let s = c .before .before .before .args in storedOr12 (s .book) (c .effect .result) ≡ postOf (s .book) (s .posting)
+unfolding postOf
 given c =
     let s = c .before .before .before .args in
-    c .effect .ensures ∙ stored-is (s .book) (s .posting) (c .before .before .refusal-before .ensures) (c .before .if1 .left)
-
-in-limits-requires : tie.Need-in-limits-requires
-in-limits-requires c κs = search needs
-
-refuse-requires-2 : tie.Need-refuse-requires-2
-refuse-requires-2 c κs = search needs
+    c .effect .ensures ∙ posts.none-before inLimits (λ (r : Posted). r .book) refused (rowsBefore (s .book) (s .posting)) tt (s .book) (posted (answerOf (s .book) (s .posting)) (nextOf (s .book) (s .posting))) (c .before .before .refusal-before .ensures) (c .before .if1 .left)
 
 returns-2 : tie.Need-returns-2
 returns-2 c = c .refuse2 .ensures ∙ sym (posts.refused-12 inLimits (λ (r : Posted). r .book) refused _ _ (sym (c .before .before .in-limits .ensures) ∙ not-true _ (c .before .if2 .taken))) ∙ given (c .before .before .before)
@@ -48,11 +40,11 @@ pub post-spec : {M : Type 1} → statement M
 post-spec =
     tie.close
     (tie.spec
-    refusal-before-requires
-    refuse-requires
+    (λ c κs. search needs)
+    (λ c κs. search needs)
     returns
     effect-requires
-    in-limits-requires
-    refuse-requires-2
+    (λ c κs. search needs)
+    (λ c κs. search needs)
     returns-2
     returns-3)

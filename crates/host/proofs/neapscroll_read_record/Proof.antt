@@ -7,15 +7,9 @@ use Rattle.postings.specs.declared.Book.{Book}
 use Rattle.host.proofs.neapscroll_read_record.Statement.{statement}
 use Rattle.host.proofs.neapscroll_read_record.Tie as tie
 
-book-of-requires : tie.Need-book-of-requires
-book-of-requires c κs = search needs
-
-read-record-requires : tie.Need-read-record-requires
-read-record-requires c κs = search needs
-
 returns : tie.Need-returns
 returns c = let s = c .before .before .before .args in
     c .read-record .ensures ∙ ap (λ (b : Book). readOf b (now (s .bytes)) (s .place)) (c .before .book-of .ensures)
 
 pub neapscroll-read-record-spec : {M : Type 1} → statement M
-neapscroll-read-record-spec = tie.close (tie.spec book-of-requires read-record-requires returns)
+neapscroll-read-record-spec = tie.close (tie.spec (λ c κs. search needs) (λ c κs. search needs) returns)

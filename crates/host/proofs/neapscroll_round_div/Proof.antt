@@ -5,11 +5,8 @@ use Rattle.rounding.specs.Round.{round}
 use Rattle.host.proofs.neapscroll_round_div.Statement.{statement}
 use Rattle.host.proofs.neapscroll_round_div.Tie as tie
 
-round-div-requires : tie.Need-round-div-requires
-round-div-requires c κs = search needs
-
 returns : tie.Need-returns
 returns c = handed-on round (c .round-div .result) (c .before .fits .a) (c .before .fits .b) (c .round-div .ok) (c .round-div .ensures)
 
 pub neapscroll-round-div-spec : {M : Type 1} → statement M
-neapscroll-round-div-spec = tie.close (tie.spec round-div-requires returns)
+neapscroll-round-div-spec = tie.close (tie.spec (λ c κs. search needs) returns)

@@ -7,15 +7,6 @@ use Rattle.postings.specs.declared.Book.{Book}
 use Rattle.host.proofs.neapscroll_write_record.Statement.{statement}
 use Rattle.host.proofs.neapscroll_write_record.Tie as tie
 
-book-of-requires : tie.Need-book-of-requires
-book-of-requires c κs = search needs
-
-write-record-requires : tie.Need-write-record-requires
-write-record-requires c κs = search needs
-
-same-length : tie.Need-same-length
-same-length c = search needs
-
 returns : tie.Need-returns
 returns c = let s = c .before .before .before .before .before .before .args in
     let w = c .before .before .write-record .ensures in
@@ -24,4 +15,4 @@ returns c = let s = c .before .before .before .before .before .before .args in
 
 pub neapscroll-write-record-spec : {M : Type 1} → statement M
 neapscroll-write-record-spec =
-    tie.close (tie.spec book-of-requires write-record-requires same-length returns)
+    tie.close (tie.spec (λ c κs. search needs) (λ c κs. search needs) (λ c. search needs) returns)

@@ -22,8 +22,5 @@ cast-result-2 c = to-unsigned (c .before .fits .a) (omega signed) tt
 returns : tie.Need-returns
 returns c = rw (not-read (c .before .fits .a)) (flip-below (c .before .fits .a) (omega signed) .1)
 
-returns-2 : tie.Need-returns-2
-returns-2 c = search needs
-
 pub size-spec : {M : Type 1} → statement M
-size-spec = tie.close (tie.spec cast-result add-result cast-result-2 returns returns-2)
+size-spec = tie.close (tie.spec cast-result add-result cast-result-2 returns (λ c. search needs))

@@ -3,7 +3,7 @@ use mathlib.Core.Path.{sym}
 use borrow.Author.Needs.{needs}
 use borrow.Author.Tests.{lt-ltb, le-ltb}
 use Rattle.journal.proofs.room_for.Statement.{statement}
-use Rattle.journal.specs.Steps.{roomOf}
+use Rattle.journal.specs.Journal.{roomOf}
 use Rattle.journal.proofs.room_for.Tie as tie
 
 mul-result : tie.Need-mul-result

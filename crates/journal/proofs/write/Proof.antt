@@ -26,7 +26,7 @@ length-requires : tie.Need-length-requires
 length-requires c κs = search needs
 
 returns-2 : tie.Need-returns-2
-returns-2 c = short _ _ _ (c .before .length .ensures) (c .if2 .taken)
+returns-2 c = short _ _ _ (c .before .length .ensures .0) (c .if2 .taken)
 
 put-journal-requires-2 : tie.Need-put-journal-requires-2
 put-journal-requires-2 c κs = search needs
@@ -36,7 +36,7 @@ same-length-2 c = search needs
 
 returns-3 : tie.Need-returns-3
 returns-3 c = let p = c .before .before .put-journal2 .ensures in
-    let fits : c .before .before .put-journal2 .result ≤ length (now (c .before .before .before .before .before .before .before .before .before .before .args .buffer)) = omega (arith, p .0 .counted, c .before .before .before .before .before .length .ensures, c .before .before .before .before .if2 .left) in
+    let fits : c .before .before .put-journal2 .result ≤ length (now (c .before .before .before .before .before .before .before .before .before .before .args .buffer)) = omega (arith, p .0 .counted, c .before .before .before .before .before .length .ensures .0, c .before .before .before .before .if2 .left) in
     whole _ _ _ _ (p .0) fits
 
 pub write-spec : {M : Type 1} → statement M

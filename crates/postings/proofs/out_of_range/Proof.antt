@@ -7,18 +7,6 @@ use Rattle.postings.specs.Kinds.{outOfRange}
 use Rattle.postings.specs.declared.Book.{Book}
 use Rattle.postings.proofs.out_of_range.Tie as tie
 
-enum-told : tie.Need-enum-told
-enum-told c = search needs
-
-electric-in-fields-requires : tie.Need-electric-in-fields-requires
-electric-in-fields-requires c κs = search needs
-
-enum-told-2 : tie.Need-enum-told-2
-enum-told-2 c = search needs
-
-steam-in-fields-requires : tie.Need-steam-in-fields-requires
-steam-in-fields-requires c κs = search needs
-
 returns : tie.Need-returns
 unfolding outOfRange
 returns c = let s = c .before .before .before .args in
@@ -33,9 +21,9 @@ pub out-of-range-spec : {M : Type 1} → statement M
 out-of-range-spec =
     tie.close
     (tie.spec
-    enum-told
-    electric-in-fields-requires
-    enum-told-2
-    steam-in-fields-requires
+    (λ c. search needs)
+    (λ c κs. search needs)
+    (λ c. search needs)
+    (λ c κs. search needs)
     returns
     returns-2)

@@ -11,12 +11,6 @@ use Rattle.postings.proofs.stray_number.Statement.{statement}
 use Rattle.postings.specs.Kinds.{Field, numbersOf, standing, anyStands, standsBeyond, strayNumber}
 use Rattle.postings.proofs.stray_number.Tie as tie
 
-bitmap-of-requires : tie.Need-bitmap-of-requires
-bitmap-of-requires c κs = search needs
-
-maps-of-requires : tie.Need-maps-of-requires
-maps-of-requires c κs = search needs
-
 returns : tie.Need-returns
 unfolding strayNumber standsBeyond
 returns c =
@@ -35,4 +29,4 @@ returns-2 c =
     (λ i. leb (c .before .maps-of .ensures i) (c .before .before .bitmap-of .ensures i)) ∙ sym (lacks (s .book) k (standing (numbersOf (s .posting))) has)
 
 pub stray-number-spec : {M : Type 1} → statement M
-stray-number-spec = tie.close (tie.spec bitmap-of-requires maps-of-requires returns returns-2)
+stray-number-spec = tie.close (tie.spec (λ c κs. search needs) (λ c κs. search needs) returns returns-2)

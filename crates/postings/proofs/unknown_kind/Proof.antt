@@ -7,11 +7,8 @@ use Rattle.postings.proofs.KindTable.{maps-test}
 use Rattle.postings.proofs.unknown_kind.Statement.{statement}
 use Rattle.postings.proofs.unknown_kind.Tie as tie
 
-maps-of-requires : tie.Need-maps-of-requires
-maps-of-requires c κs = search needs
-
 returns : tie.Need-returns
 returns c = ap (λ (n : ℕ). eqb n 0) (c .maps-of .ensures) ∙ maps-test (c .before .args .book) (c .before .args .posting .kind)
 
 pub unknown-kind-spec : {M : Type 1} → statement M
-unknown-kind-spec = tie.close (tie.spec maps-of-requires returns)
+unknown-kind-spec = tie.close (tie.spec (λ c κs. search needs) returns)

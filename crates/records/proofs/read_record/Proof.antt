@@ -12,12 +12,6 @@ use Rattle.records.proofs.read_record.Statement.{statement}
 use Rattle.records.specs.Records.{recordLength}
 use Rattle.records.proofs.read_record.Tie as tie
 
-remaining-requires : tie.Need-remaining-requires
-remaining-requires c κs = search needs
-
-refused-requires : tie.Need-refused-requires
-refused-requires c κs = search needs
-
 returns : tie.Need-returns
 returns c = c .refused .ensures ∙ refused₁ _ _ _ (omega (arith, c .before .before .remaining .ensures))
 
@@ -38,12 +32,6 @@ shared-slice-read-bitmap : tie.Need-shared-slice-read-bitmap
 shared-slice-read-bitmap c = let s = c .before .before .before .before .before .args in
     omega (arith, some (c .before .before), length-drop (s .place) (now (s .bytes)))
 
-maps-of-requires : tie.Need-maps-of-requires
-maps-of-requires c κs = search needs
-
-refused-requires-2 : tie.Need-refused-requires-2
-refused-requires-2 c κs = search needs
-
 returns-2 : tie.Need-returns-2
 returns-2 c = c .refused2 .ensures ∙ refused₂ _ _ _ (some (c .before .before .before .before .before)) (sym (c .before .before .maps-of .ensures) ∙ c .before .if2 .taken)
 
@@ -53,20 +41,11 @@ has c = omega (arith, c .before .maps-of .ensures, c .if2 .left)
 byte : (c : tie.Else2) → let s = c .before .before .before .before .before .before .before .args in mapAt (now (s .bytes)) (s .place) < 256
 byte c = omega (arith, c .before .before .before .before .before .before .shared-slice-known .given (c .before .before .before .before .before .before .before .args .place + 1))
 
-record-length-requires : tie.Need-record-length-requires
-record-length-requires c κs = search needs
-
-refused-requires-3 : tie.Need-refused-requires-3
-refused-requires-3 c κs = search needs
-
 returns-3 : tie.Need-returns-3
 returns-3 c = c .refused3 .ensures ∙ refused₃ _ _ _ (some (c .before .before .before .before .before .before .before)) (has (c .before .before .before)) (byte (c .before .before .before)) (omega (arith, c .before .before .before .before .maps-of .ensures))
 
 few : (c : tie.Else3) → let s = c .before .before .before .before .before .before .before .before .before .args in mapAt (now (s .bytes)) (s .place) < mapsOf (s .book) (kindAt (now (s .bytes)) (s .place))
 few c = omega (arith, c .before .before .before .maps-of .ensures)
-
-refused-requires-4 : tie.Need-refused-requires-4
-refused-requires-4 c κs = search needs
 
 returns-4 : tie.Need-returns-4
 returns-4 c =
@@ -86,4 +65,4 @@ returns-5 c = c .read-fields .ensures ∙ fields-are _ _ _ (some (c .before .bef
 pub read-record-spec : {M : Type 1} → statement M
 read-record-spec =
     tie.close
-    (tie.spec remaining-requires refused-requires returns shared-slice-read-kind add-bitmap shared-slice-read-bitmap maps-of-requires refused-requires-2 returns-2 record-length-requires refused-requires-3 returns-3 refused-requires-4 returns-4 read-fields-requires returns-5)
+    (tie.spec (λ c κs. search needs) (λ c κs. search needs) returns shared-slice-read-kind add-bitmap shared-slice-read-bitmap (λ c κs. search needs) (λ c κs. search needs) returns-2 (λ c κs. search needs) (λ c κs. search needs) returns-3 (λ c κs. search needs) returns-4 read-fields-requires returns-5)

@@ -11,23 +11,14 @@ use Rattle.records.proofs.write_record.Statement.{statement}
 use Rattle.records.specs.Records.{recordLength, recordOf}
 use Rattle.records.proofs.write_record.Tie as tie
 
-maps-of-requires : tie.Need-maps-of-requires
-maps-of-requires c κs = search needs
-
 returns : tie.Need-returns
 returns c = refused₂ _ _ _ (sym (c .before .maps-of .ensures) ∙ c .if1 .taken)
-
-bitmap-of-requires : tie.Need-bitmap-of-requires
-bitmap-of-requires c κs = search needs
 
 has : (c : tie.Else1) → 0 < mapsOf (c .before .before .before .args .book) (c .before .before .before .args .posting .kind)
 has c = omega (arith, c .before .maps-of .ensures, c .if1 .left)
 
 returns-2 : tie.Need-returns-2
 returns-2 c = refused₃ _ _ _ (has (c .before .before)) (omega (arith, c .before .before .before .maps-of .ensures, c .before .bitmap-of .ensures))
-
-record-length-requires : tie.Need-record-length-requires
-record-length-requires c κs = search needs
 
 few : (c : tie.Else2) → bitMapOf (standing (numbersOf (c .before .before .before .before .before .args .posting))) < mapsOf (c .before .before .before .before .before .args .book) (c .before .before .before .before .before .args .posting .kind)
 few c = omega (arith, c .before .before .before .maps-of .ensures, c .before .bitmap-of .ensures)
@@ -41,9 +32,6 @@ returns-3 c = refused₁₃ _ _ _ (has (c .before .before .before .before)) (few
 put-record-requires : tie.Need-put-record-requires
 put-record-requires c κs = (c .before .before .before .before .bitmap-of .ensures, omega (arith, long (c .before .before)))
 
-same-length : tie.Need-same-length
-same-length c = search needs
-
 returns-4 : tie.Need-returns-4
 returns-4 c = let l = long (c .before .before .before .before .before) in
     written _ _ _ (has (c .before .before .before .before .before .before .before .before)) (few (c .before .before .before .before .before .before)) _ _ (omega (arith, l)) l (c .before .before .put-record .ensures)
@@ -52,12 +40,12 @@ pub write-record-spec : {M : Type 1} → statement M
 write-record-spec =
     tie.close
     (tie.spec
-    maps-of-requires
+    (λ c κs. search needs)
     returns
-    bitmap-of-requires
+    (λ c κs. search needs)
     returns-2
-    record-length-requires
+    (λ c κs. search needs)
     returns-3
     put-record-requires
-    same-length
+    (λ c. search needs)
     returns-4)

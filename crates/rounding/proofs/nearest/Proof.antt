@@ -6,12 +6,6 @@ use Rattle.rounding.proofs.nearest.Statement.{statement}
 use Rattle.rounding.specs.Round.{nearestOf}
 use Rattle.rounding.proofs.nearest.Tie as tie
 
-div-rounded : tie.Need-div-rounded
-div-rounded c = search needs
-
-rem-rounded : tie.Need-rem-rounded
-rem-rounded c = search needs
-
 rounded-requires : tie.Need-rounded-requires
 rounded-requires c κs = let s = c .args in omega (arith, div-le-self (s .n) (s .b), mod-lt (s .n) {m = s .b} (omega arith))
 
@@ -20,4 +14,4 @@ unfolding nearestOf
 returns c = c .rounded .ensures
 
 pub nearest-spec : {M : Type 1} → statement M
-nearest-spec = tie.close (tie.spec div-rounded rem-rounded rounded-requires returns)
+nearest-spec = tie.close (tie.spec (λ c. search needs) (λ c. search needs) rounded-requires returns)

@@ -16,12 +16,6 @@ use Rattle.rounding.proofs.round_div.Tie as tie
 returns : tie.Need-returns
 returns c = sym (round-below (c .before .args .a) (c .before .args .b) (omega signed))
 
-size-requires : tie.Need-size-requires
-size-requires c κs = search needs
-
-size-requires-2 : tie.Need-size-requires-2
-size-requires-2 c κs = search needs
-
 parts : (c : tie.After-size2) → Parts (c .before .before .before .args .a) (c .before .before .before .args .b) (c .before .size .result) (c .size2 .result)
 parts c = let s = c .before .before .before in
     record { dividend = size-read (s .fits .a) (c .before .size .ensures); divisor = size-read (s .fits .b) (c .size2 .ensures); positive = omega signed }
@@ -40,4 +34,4 @@ returns-2 c = reads w64 (c .with-sign .result) (c .with-sign .ok)
     ∙ rw (toZ-ofZ (c .before .before .before .before .before .fits .a)) (quotient-is (parts (c .before .before)) (c .before .nearest .ensures))
 
 pub round-div-spec : {M : Type 1} → statement M
-round-div-spec = tie.close (tie.spec returns size-requires size-requires-2 nearest-requires with-sign-requires returns-2)
+round-div-spec = tie.close (tie.spec returns (λ c κs. search needs) (λ c κs. search needs) nearest-requires with-sign-requires returns-2)

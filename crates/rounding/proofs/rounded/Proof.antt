@@ -8,24 +8,15 @@ use Rattle.rounding.specs.Round.{roundedOf}
 use Rattle.rounding.specs.Nearest.{tie-small}
 use Rattle.rounding.proofs.rounded.Tie as tie
 
-sub-lacking : tie.Need-sub-lacking
-sub-lacking c = search needs
-
 returns : tie.Need-returns
 unfolding roundedOf
 returns c = let s = c .before .args in
     simp (lt-ltb (2 * s .rest) (s .b) (omega arith))
 
-add-result : tie.Need-add-result
-add-result c = search needs
-
 returns-2 : tie.Need-returns-2
 unfolding roundedOf
 returns-2 c = let s = c .before .before .args in
     simp (le-ltb (2 * s .rest) (s .b) (omega arith), lt-ltb (s .b) (2 * s .rest) (omega arith))
-
-tie-requires : tie.Need-tie-requires
-tie-requires c κs = search needs
 
 add-result-2 : tie.Need-add-result-2
 add-result-2 c = omega (arith, tie-small (c .before .before .before .args .whole))
@@ -36,4 +27,4 @@ returns-3 c = let s = c .before .before .before .args in
     simp (le-ltb (2 * s .rest) (s .b) (omega arith), le-ltb (s .b) (2 * s .rest) (omega arith), c .tie .ensures)
 
 pub rounded-spec : {M : Type 1} → statement M
-rounded-spec = tie.close (tie.spec sub-lacking returns add-result returns-2 tie-requires add-result-2 returns-3)
+rounded-spec = tie.close (tie.spec (λ c. search needs) returns (λ c. search needs) returns-2 (λ c κs. search needs) add-result-2 returns-3)

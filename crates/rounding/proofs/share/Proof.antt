@@ -8,32 +8,17 @@ use Rattle.rounding.proofs.share.Statement.{statement}
 use Rattle.rounding.specs.Nearest.{nearest-of, nearest-part}
 use Rattle.rounding.proofs.share.Tie as tie
 
-mul-first : tie.Need-mul-first
-mul-first c = search needs
-
-rem-second : tie.Need-rem-second
-rem-second c = search needs
-
 divided : (c : tie.Start) → Steps (c .args .part) (c .args .whole)
 divided c = steps (c .args .part) (c .args .whole) (omega arith) (omega arith)
 
 mul-second : tie.Need-mul-second
 mul-second c = omega (arith, divided c)
 
-div-rounded : tie.Need-div-rounded
-div-rounded c = search needs
-
 mul-rounded : tie.Need-mul-rounded
 mul-rounded c = omega (arith, divided c)
 
-div-rounded-2 : tie.Need-div-rounded-2
-div-rounded-2 c = search needs
-
 add-rounded : tie.Need-add-rounded
 add-rounded c = omega (arith, divided c)
-
-rem-rounded : tie.Need-rem-rounded
-rem-rounded c = search needs
 
 rounded-requires : tie.Need-rounded-requires
 rounded-requires c κs = omega (arith, divided c)
@@ -45,4 +30,4 @@ returns c = let s = c .before .args in
     (e, omega (arith, e, nearest-part 100000 (s .part) (s .whole) (omega arith) (omega arith)))
 
 pub share-spec : {M : Type 1} → statement M
-share-spec = tie.close (tie.spec mul-first rem-second mul-second div-rounded mul-rounded div-rounded-2 add-rounded rem-rounded rounded-requires returns)
+share-spec = tie.close (tie.spec (λ c. search needs) (λ c. search needs) mul-second (λ c. search needs) mul-rounded (λ c. search needs) add-rounded (λ c. search needs) rounded-requires returns)

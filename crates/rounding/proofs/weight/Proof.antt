@@ -12,9 +12,6 @@ use Rattle.rounding.proofs.weight.Statement.{statement}
 use Rattle.rounding.specs.Weight.{weighable}
 use Rattle.rounding.proofs.weight.Tie as tie
 
-in-range-requires : tie.Need-in-range-requires
-in-range-requires c κs = search needs
-
 returns : tie.Need-returns
 unfolding weighable
 returns c = let s = c .before .before in
@@ -23,9 +20,6 @@ returns c = let s = c .before .before in
 secondary : (c : tie.Else1) → weighable (c .before .before .args .secondary) ≡ true
 unfolding weighable
 secondary c = tested-not weighable (c .before .before .fits .secondary) (c .before .in-range .ensures) (c .if1 .left)
-
-in-range-requires-2 : tie.Need-in-range-requires-2
-in-range-requires-2 c κs = search needs
 
 returns-2 : tie.Need-returns-2
 unfolding weighable
@@ -37,12 +31,6 @@ returns-2 c = let s = c .before .before .before .before in
 primary : (c : tie.Else2) → weighable (c .before .before .before .before .args .primary) ≡ true
 unfolding weighable
 primary c = tested-not weighable (c .before .before .before .before .fits .primary) (c .before .in-range2 .ensures) (c .if2 .left)
-
-size-requires : tie.Need-size-requires
-size-requires c κs = search needs
-
-size-requires-2 : tie.Need-size-requires-2
-size-requires-2 c κs = search needs
 
 weighed :
     (c : tie.After-size2) →
@@ -64,11 +52,8 @@ returns-3 c = sym (weight-none (weighed (c .before)) (c .if3 .taken))
 share-requires : tie.Need-share-requires
 share-requires c κs = omega (arith, weighed-small (weighed (c .before)))
 
-cast-result : tie.Need-cast-result
-cast-result c = search needs
-
 returns-4 : tie.Need-returns-4
 returns-4 c = toZ-pos w64 (omega arith) ∙ ap pos (c .share .ensures .0) ∙ sym (weight-some (weighed (c .before .before)) (omega arith))
 
 pub weight-spec : {M : Type 1} → statement M
-weight-spec = tie.close (tie.spec in-range-requires returns in-range-requires-2 returns-2 size-requires size-requires-2 add-whole returns-3 share-requires cast-result returns-4)
+weight-spec = tie.close (tie.spec (λ c κs. search needs) returns (λ c κs. search needs) returns-2 (λ c κs. search needs) (λ c κs. search needs) add-whole returns-3 share-requires (λ c. search needs) returns-4)

@@ -18,9 +18,6 @@ returns c = let s = c .before in above-is (s .args .a) (s .args .n) (omega signe
 returns-2 : tie.Need-returns-2
 returns-2 c = let s = c .before .before in zero-is (s .args .a) ∙ ap (withSign (s .args .a)) (sym (c .if2 .taken))
 
-sub-result : tie.Need-sub-result
-sub-result c = search needs
-
 cast-result-2 : tie.Need-cast-result-2
 cast-result-2 c = let s = c .before .before in omega (arith, natAbs-le (s .args .a) (s .fits .a .sfits), s .pre)
 
@@ -29,4 +26,4 @@ returns-3 c = let s = c .before .before in
     below-is (s .args .a) (s .args .n) (omega signed) (omega arith) (omega (arith, natAbs-le (s .args .a) (s .fits .a .sfits), s .pre))
 
 pub with-sign-spec : {M : Type 1} → statement M
-with-sign-spec = tie.close (tie.spec cast-result returns returns-2 sub-result cast-result-2 returns-3)
+with-sign-spec = tie.close (tie.spec cast-result returns returns-2 (λ c. search needs) cast-result-2 returns-3)

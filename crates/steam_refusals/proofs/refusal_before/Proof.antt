@@ -43,46 +43,25 @@ free c = sym (c .before .still-runs .ensures) ∙ c .if6 .left
 sold : (c : tie.Else7) → let s = c .before .before .before .before .before .before .before .before .before .before .before .before .before .before .before .args in nothingSold (kindOf (s .posting .kind)) (s .book) (s .posting) ≡ false
 sold c = sym (c .before .sold-nothing .ensures) ∙ c .if7 .left
 
-unknown-kind-requires : tie.Need-unknown-kind-requires
-unknown-kind-requires c κs = search needs
-
 returns : tie.Need-returns
 unfolding refusalBy
 returns c = sym (simp (← (c .before .unknown-kind .ensures), c .if1 .taken))
-
-stray-number-requires : tie.Need-stray-number-requires
-stray-number-requires c κs = search needs
 
 returns-2 : tie.Need-returns-2
 unfolding refusalBy
 returns-2 c = sym (simp (known (c .before .before), ← (c .before .stray-number .ensures), c .if2 .taken))
 
-in-limits-requires : tie.Need-in-limits-requires
-in-limits-requires c κs = search needs
-
 returns-3 : tie.Need-returns-3
 unfolding refusalBy
 returns-3 c = sym (simp (known (c .before .before .before .before), plain (c .before .before), ← (c .before .in-limits .ensures), c .if3 .taken))
-
-out-of-range-requires : tie.Need-out-of-range-requires
-out-of-range-requires c κs = search needs
 
 returns-4 : tie.Need-returns-4
 unfolding refusalBy
 returns-4 c = sym (simp (known (c .before .before .before .before .before .before), plain (c .before .before .before .before), limited (c .before .before), ← (c .before .out-of-range .ensures), c .if4 .taken))
 
-settles-requires : tie.Need-settles-requires
-settles-requires c κs = search needs
-
-is-forbidden-requires : tie.Need-is-forbidden-requires
-is-forbidden-requires c κs = search needs
-
 returns-5 : tie.Need-returns-5
 unfolding refusalBy
 returns-5 c = sym (simp (known (c .before .before .before .before .before .before .before .before .before), plain (c .before .before .before .before .before .before .before), limited (c .before .before .before .before .before), ranged (c .before .before .before), ← (is-row-8 (c .before)), c .if5 .taken))
-
-still-runs-requires : tie.Need-still-runs-requires
-still-runs-requires c κs = search needs
 
 returns-6 : tie.Need-returns-6
 unfolding refusalBy
@@ -110,18 +89,18 @@ pub refusal-before-spec : {M : Type 1} → statement M
 refusal-before-spec =
     tie.close
     (tie.spec
-    unknown-kind-requires
+    (λ c κs. search needs)
     returns
-    stray-number-requires
+    (λ c κs. search needs)
     returns-2
-    in-limits-requires
+    (λ c κs. search needs)
     returns-3
-    out-of-range-requires
+    (λ c κs. search needs)
     returns-4
-    settles-requires
-    is-forbidden-requires
+    (λ c κs. search needs)
+    (λ c κs. search needs)
     returns-5
-    still-runs-requires
+    (λ c κs. search needs)
     returns-6
     sold-nothing-requires
     returns-7

@@ -20,12 +20,9 @@ use Rattle.steam_rules.specs.Settlement.{determinantsOf}
 use Rattle.steam_rules.specs.Quarters.{determinants-within}
 use Rattle.steam_rules.specs.Ranges.{book-within}
 use Rattle.steam_rules.specs.Refusals.{nothingSold}
+use Rattle.steam_settlement.specs.Determinants.{determinantsOr0, determinantsOr0-is}
 use Rattle.steam_refusals.proofs.sold_nothing.Statement.{statement}
-use Rattle.steam_refusals.specs.Determinants.{determinantsOr0, determinantsOr0-is}
 use Rattle.steam_refusals.proofs.sold_nothing.Tie as tie
-
-determinants-of-requires : tie.Need-determinants-of-requires
-determinants-of-requires c κs = search needs
 
 returns : tie.Need-returns
 unfolding nothingSold kindOf
@@ -44,4 +41,4 @@ unfolding nothingSold
 returns-2 c = sym (simp (other-kind settle (omega arith) _ (c .if1 .left)))
 
 pub sold-nothing-spec : {M : Type 1} → statement M
-sold-nothing-spec = tie.close (tie.spec determinants-of-requires returns returns-2)
+sold-nothing-spec = tie.close (tie.spec (λ c κs. search needs) returns returns-2)

@@ -18,9 +18,6 @@ use Rattle.steam_rules.specs.Refusals.{tooSmall}
 use Rattle.steam_refusals.proofs.too_small.Statement.{statement}
 use Rattle.steam_refusals.proofs.too_small.Tie as tie
 
-size-requires : tie.Need-size-requires
-size-requires c κs = search needs
-
 sized : (c : tie.After-size) → c .size .result ≡ natAbs (c .before .before .before .before .args .posting .first)
 unfolding kindOf
 sized c =
@@ -56,4 +53,4 @@ unfolding tooSmall
 returns-2 c = sym (simp (other-kind adjust (omega arith) _ (c .if1 .left)))
 
 pub too-small-spec : {M : Type 1} → statement M
-too-small-spec = tie.close (tie.spec size-requires cast-result mul-result returns returns-2)
+too-small-spec = tie.close (tie.spec (λ c κs. search needs) cast-result mul-result returns returns-2)

@@ -10,30 +10,6 @@ use Rattle.steam_rules.specs.Limits.{mmbtuInLimits, quartersInLimits}
 use Rattle.steam_rules.specs.Fours.{tested-four}
 use Rattle.steam_rules.proofs.quarters_in_limits.Tie as tie
 
-array-copy-out-in-limits : tie.Need-array-copy-out-in-limits
-array-copy-out-in-limits c = search needs
-
-in-limits-requires : tie.Need-in-limits-requires
-in-limits-requires c κs = search needs
-
-array-copy-out-in-limits-2 : tie.Need-array-copy-out-in-limits-2
-array-copy-out-in-limits-2 c = search needs
-
-in-limits-requires-2 : tie.Need-in-limits-requires-2
-in-limits-requires-2 c κs = search needs
-
-array-copy-out-in-limits-3 : tie.Need-array-copy-out-in-limits-3
-array-copy-out-in-limits-3 c = search needs
-
-in-limits-requires-3 : tie.Need-in-limits-requires-3
-in-limits-requires-3 c κs = search needs
-
-array-copy-out-in-limits-4 : tie.Need-array-copy-out-in-limits-4
-array-copy-out-in-limits-4 c = search needs
-
-in-limits-requires-4 : tie.Need-in-limits-requires-4
-in-limits-requires-4 c κs = search needs
-
 returns : tie.Need-returns
 unfolding quartersInLimits
 returns c = let q = c .before .before .before .before .before .before .before .before .args .t1 in
@@ -45,12 +21,12 @@ pub quarters-in-limits-spec : {M : Type 1} → statement M
 quarters-in-limits-spec =
     tie.close
     (tie.spec
-    array-copy-out-in-limits
-    in-limits-requires
-    array-copy-out-in-limits-2
-    in-limits-requires-2
-    array-copy-out-in-limits-3
-    in-limits-requires-3
-    array-copy-out-in-limits-4
-    in-limits-requires-4
+    (λ c. search needs)
+    (λ c κs. search needs)
+    (λ c. search needs)
+    (λ c κs. search needs)
+    (λ c. search needs)
+    (λ c κs. search needs)
+    (λ c. search needs)
+    (λ c κs. search needs)
     returns)

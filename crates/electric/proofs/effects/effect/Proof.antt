@@ -3,7 +3,7 @@ use mathlib.Core.Path.{_≡_, ap}
 use Rattle.postings.specs.Kinds.{kindOf}
 use Rattle.postings.specs.Ranged.{ranged-as}
 use Rattle.postings.specs.declared.Book.the-variants.{Electric}
-use Rattle.electric.proofs.Ready.{stored-as-kind, is-adjustment}
+use Rattle.electric.proofs.ByKind.{stored-as-kind, is-adjustment}
 use Rattle.electric.proofs.effects.effect.Statement.{statement}
 use Rattle.electric.specs.Stored.{storedOr12}
 use Rattle.electric.proofs.effects.effect.Tie as tie

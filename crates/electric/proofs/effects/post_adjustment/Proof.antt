@@ -10,12 +10,6 @@ use Rattle.electric.proofs.Parts.{on-secondary, on-primary}
 use Rattle.electric.proofs.effects.post_adjustment.Statement.{statement}
 use Rattle.electric.proofs.effects.post_adjustment.Tie as tie
 
-adjusted-requires : tie.Need-adjusted-requires
-adjusted-requires c κs = search needs
-
-adjusted-requires-2 : tie.Need-adjusted-requires-2
-adjusted-requires-2 c κs = search needs
-
 returns : tie.Need-returns
 unfolding nextAt answerAt adjustPosted
 returns c = let s = c .before .before .before .before .args in
@@ -29,4 +23,4 @@ returns-2 c = let s = c .before .before .before .before .args in
     ∙ on-primary (s .book) (λ (l : Level). Done) (adjustedLevel (s .posting .second)) (s .posting .first) (c .before .if1 .left)
 
 pub post-adjustment-spec : {M : Type 1} → statement M
-post-adjustment-spec = tie.close (tie.spec adjusted-requires adjusted-requires-2 returns returns-2)
+post-adjustment-spec = tie.close (tie.spec (λ c κs. search needs) (λ c κs. search needs) returns returns-2)

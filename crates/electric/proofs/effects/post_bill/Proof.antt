@@ -11,23 +11,11 @@ use Rattle.electric.proofs.Parts.{on-secondary, on-primary}
 use Rattle.electric.proofs.effects.post_bill.Statement.{statement}
 use Rattle.electric.proofs.effects.post_bill.Tie as tie
 
-line-requires : tie.Need-line-requires
-line-requires c κs = search needs
-
-billed-requires : tie.Need-billed-requires
-billed-requires c κs = search needs
-
 returns : tie.Need-returns
 unfolding nextAt answerAt billPosted lineAnswer
 returns c = let s = c .before .before .before .before .before .args in
     (λ i. posted (Line (c .before .line .ensures i)) (withLevels (s .book) (c .billed .ensures i) (s .book .primary)))
     ∙ on-secondary (s .book) (λ (l : Level). Line (cents (levelLine (s .posting .second) l))) (billedLevel (s .posting .second)) (s .posting .first) (c .before .before .before .before .before .pre .1 .0) (c .before .before .if1 .taken)
-
-line-requires-2 : tie.Need-line-requires-2
-line-requires-2 c κs = search needs
-
-billed-requires-2 : tie.Need-billed-requires-2
-billed-requires-2 c κs = search needs
 
 returns-2 : tie.Need-returns-2
 unfolding nextAt answerAt billPosted lineAnswer
@@ -38,4 +26,4 @@ returns-2 c = let s = c .before .before .before .before .before .args in
 pub post-bill-spec : {M : Type 1} → statement M
 post-bill-spec =
     tie.close
-    (tie.spec line-requires billed-requires returns line-requires-2 billed-requires-2 returns-2)
+    (tie.spec (λ c κs. search needs) (λ c κs. search needs) returns (λ c κs. search needs) (λ c κs. search needs) returns-2)

@@ -6,13 +6,10 @@ use Rattle.electric_rules.specs.Next.{withPeriod, costPosted, nextAt, answerAt}
 use Rattle.electric.proofs.effects.post_cost.Statement.{statement}
 use Rattle.electric.proofs.effects.post_cost.Tie as tie
 
-cost-added-requires : tie.Need-cost-added-requires
-cost-added-requires c κs = search needs
-
 returns : tie.Need-returns
 unfolding nextAt answerAt costPosted
 returns c = let b = c .before .args .book in
     λ i. posted Done (withPeriod b (c .cost-added .ensures i))
 
 pub post-cost-spec : {M : Type 1} → statement M
-post-cost-spec = tie.close (tie.spec cost-added-requires returns)
+post-cost-spec = tie.close (tie.spec (λ c κs. search needs) returns)

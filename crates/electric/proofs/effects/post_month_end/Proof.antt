@@ -10,24 +10,6 @@ use Rattle.riders.specs.Runs.{run}
 use Rattle.electric.proofs.effects.post_month_end.Statement.{statement}
 use Rattle.electric.proofs.effects.post_month_end.Tie as tie
 
-interest-requires : tie.Need-interest-requires
-interest-requires c κs = search needs
-
-interest-requires-2 : tie.Need-interest-requires-2
-interest-requires-2 c κs = search needs
-
-entering-requires : tie.Need-entering-requires
-entering-requires c κs = search needs
-
-month-after-requires : tie.Need-month-after-requires
-month-after-requires c κs = search needs
-
-ended-requires : tie.Need-ended-requires
-ended-requires c κs = search needs
-
-ended-requires-2 : tie.Need-ended-requires-2
-ended-requires-2 c κs = search needs
-
 returns : tie.Need-returns
 unfolding nextAt answerAt monthEnded interestAnswer
 returns c = let b = c .before .before .before .before .before .before .args .book in
@@ -41,10 +23,10 @@ pub post-month-end-spec : {M : Type 1} → statement M
 post-month-end-spec =
     tie.close
     (tie.spec
-    interest-requires
-    interest-requires-2
-    entering-requires
-    month-after-requires
-    ended-requires
-    ended-requires-2
+    (λ c κs. search needs)
+    (λ c κs. search needs)
+    (λ c κs. search needs)
+    (λ c κs. search needs)
+    (λ c κs. search needs)
+    (λ c κs. search needs)
     returns)

@@ -15,15 +15,12 @@ use Rattle.electric_rules.specs.Book.{posted}
 use Rattle.electric_rules.specs.Levels.{filedLevel}
 use Rattle.electric_rules.specs.Next.{settledWith}
 use Rattle.electric_rules.specs.Sizes.{RatesWithin, rates-within, secondary-within, primary-within}
+use Rattle.electric_settlement.specs.Shares.{sharesOf}
+use Rattle.electric_settlement.specs.Filings.{filingOf}
 use Rattle.electric.proofs.Settling.{stored-as}
 use Rattle.electric.proofs.effects.post_settlement.Statement.{statement}
-use Rattle.electric.specs.Shares.{sharesOf}
-use Rattle.electric.specs.Filings.{filingOf}
 use Rattle.electric.specs.Stored.{storedOr12}
 use Rattle.electric.proofs.effects.post_settlement.Tie as tie
-
-rates-of-requires : tie.Need-rates-of-requires
-rates-of-requires c κs = search needs
 
 rated : (c : tie.After-rates-of) → RatesWithin (c .rates-of .result)
 rated c = subst (λ (r : Rates). RatesWithin r) (sym (c .rates-of .ensures)) (rates-within (c .before .args .book .division))
@@ -44,15 +41,6 @@ filing-of-requires-2 c κs = let s = c .before .before .before .before .before .
     let f : SFits w64 (s .posting .second) = fits64 (b-between (w .1 .1 .0)) tt in
     (between-same (λ i. c .before .before .before .shares-of .ensures i .primary .0) (primary-within _ (s .book .period) (rated (c .before .before .before .before)) (w .0 .period)), w .0 .primary, between-same (toZ-ofZ f) (w .1 .1 .0))
 
-filed-level-requires : tie.Need-filed-level-requires
-filed-level-requires c κs = search needs
-
-filed-level-requires-2 : tie.Need-filed-level-requires-2
-filed-level-requires-2 c κs = search needs
-
-settled-with-requires : tie.Need-settled-with-requires
-settled-with-requires c κs = search needs
-
 returns : tie.Need-returns
 returns c = let b = c .before .before .before .before .before .before .before .before .before .before .before .args .book in
     let p = c .before .before .before .before .before .before .before .before .before .before .before .args .posting in
@@ -71,11 +59,11 @@ pub post-settlement-spec : {M : Type 1} → statement M
 post-settlement-spec =
     tie.close
     (tie.spec
-    rates-of-requires
+    (λ c κs. search needs)
     shares-of-requires
     filing-of-requires
     filing-of-requires-2
-    filed-level-requires
-    filed-level-requires-2
-    settled-with-requires
+    (λ c κs. search needs)
+    (λ c κs. search needs)
+    (λ c κs. search needs)
     returns)

@@ -10,17 +10,11 @@ use Rattle.electric_rules.proofs.ElectricBook.open.Statement.{statement
 use Rattle.electric_rules.specs.Book.{posted, refused, openedOf}
 use Rattle.electric_rules.proofs.ElectricBook.open.Tie as tie
 
-fresh-requires : tie.Need-fresh-requires
-fresh-requires c κs = search needs
-
 returns : tie.Need-returns
 unfolding openedOf
 returns c =
     let h : 1 < c .before .before .args .division = omega (arith, c .before .if1 .taken) in
     (λ i. refused (c .fresh .ensures i) 7) ∙ sym (row-holds 7 _ _ (omega arith) (lt-ltb _ _ h))
-
-fresh-requires-2 : tie.Need-fresh-requires-2
-fresh-requires-2 c κs = search needs
 
 returns-2 : tie.Need-returns-2
 unfolding openedOf
@@ -29,4 +23,4 @@ returns-2 c =
     (λ i. posted Done (c .fresh2 .ensures i)) ∙ sym (row-passed 7 _ _ (le-ltb _ _ h))
 
 pub open-spec : {M : Type 1} → statement M
-open-spec = tie.close (tie.spec fresh-requires returns fresh-requires-2 returns-2)
+open-spec = tie.close (tie.spec (λ c κs. search needs) returns (λ c κs. search needs) returns-2)

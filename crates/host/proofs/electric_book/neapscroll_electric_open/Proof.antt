@@ -5,14 +5,8 @@ use Rattle.host.proofs.electric_book.neapscroll_electric_open.Statement
 use Rattle.host.specs.Replies.{electricReply}
 use Rattle.host.proofs.electric_book.neapscroll_electric_open.Tie as tie
 
-open-requires : tie.Need-open-requires
-open-requires c κs = search needs
-
-reply-with-requires : tie.Need-reply-with-requires
-reply-with-requires c κs = search needs
-
 returns : tie.Need-returns
 returns c = c .reply-with .ensures ∙ ap electricReply (c .before .«open» .ensures)
 
 pub neapscroll-electric-open-spec : {M : Type 1} → statement M
-neapscroll-electric-open-spec = tie.close (tie.spec open-requires reply-with-requires returns)
+neapscroll-electric-open-spec = tie.close (tie.spec (λ c κs. search needs) (λ c κs. search needs) returns)

@@ -5,14 +5,8 @@ use Rattle.host.proofs.electric_book.neapscroll_electric_post.Statement
 use Rattle.host.specs.Replies.{electricReply}
 use Rattle.host.proofs.electric_book.neapscroll_electric_post.Tie as tie
 
-post-requires : tie.Need-post-requires
-post-requires c κs = search needs
-
-reply-with-requires : tie.Need-reply-with-requires
-reply-with-requires c κs = search needs
-
 returns : tie.Need-returns
 returns c = c .reply-with .ensures ∙ ap electricReply (c .before .post .ensures)
 
 pub neapscroll-electric-post-spec : {M : Type 1} → statement M
-neapscroll-electric-post-spec = tie.close (tie.spec post-requires reply-with-requires returns)
+neapscroll-electric-post-spec = tie.close (tie.spec (λ c κs. search needs) (λ c κs. search needs) returns)

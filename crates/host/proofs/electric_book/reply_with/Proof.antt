@@ -3,11 +3,8 @@ use borrow.Author.Needs.{needs}
 use Rattle.host.proofs.electric_book.reply_with.Statement.{statement}
 use Rattle.host.proofs.electric_book.reply_with.Tie as tie
 
-reply-of-requires : tie.Need-reply-of-requires
-reply-of-requires c κs = search needs
-
 returns : tie.Need-returns
 returns c = λ i. record { reply = c .reply-of .ensures i; book = c .before .before .args .posted .book }
 
 pub reply-with-spec : {M : Type 1} → statement M
-reply-with-spec = tie.close (tie.spec reply-of-requires returns)
+reply-with-spec = tie.close (tie.spec (λ c κs. search needs) returns)

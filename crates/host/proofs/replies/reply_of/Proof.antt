@@ -5,42 +5,6 @@ use Rattle.host.proofs.replies.reply_of.Statement.{statement}
 use Rattle.host.specs.Replies.{replyOf}
 use Rattle.host.proofs.replies.reply_of.Tie as tie
 
-enum-known-answer : tie.Need-enum-known-answer
-enum-known-answer c = search needs
-
-of-cents-requires : tie.Need-of-cents-requires
-of-cents-requires c κs = search needs
-
-enum-known-answer-2 : tie.Need-enum-known-answer-2
-enum-known-answer-2 c = search needs
-
-of-points-requires : tie.Need-of-points-requires
-of-points-requires c κs = search needs
-
-enum-known-answer-3 : tie.Need-enum-known-answer-3
-enum-known-answer-3 c = search needs
-
-of-points-requires-2 : tie.Need-of-points-requires-2
-of-points-requires-2 c κs = search needs
-
-enum-known-answer-4 : tie.Need-enum-known-answer-4
-enum-known-answer-4 c = search needs
-
-of-cents-requires-2 : tie.Need-of-cents-requires-2
-of-cents-requires-2 c κs = search needs
-
-enum-told : tie.Need-enum-told
-enum-told c = search needs
-
-refused-requires : tie.Need-refused-requires
-refused-requires c κs = search needs
-
-enum-known-answer-5 : tie.Need-enum-known-answer-5
-enum-known-answer-5 c = search needs
-
-refused-requires-2 : tie.Need-refused-requires-2
-refused-requires-2 c κs = search needs
-
 returns : tie.Need-returns
 returns c = c .of-cents .ensures ∙ ap replyOf (sym (c .before .before .answer .given .1))
 
@@ -63,18 +27,18 @@ pub reply-of-spec : {M : Type 1} → statement M
 reply-of-spec =
     tie.close
     (tie.spec
-    enum-known-answer
-    of-cents-requires
-    enum-known-answer-2
-    of-points-requires
-    enum-known-answer-3
-    of-points-requires-2
-    enum-known-answer-4
-    of-cents-requires-2
-    enum-told
-    refused-requires
-    enum-known-answer-5
-    refused-requires-2
+    (λ c. search needs)
+    (λ c κs. search needs)
+    (λ c. search needs)
+    (λ c κs. search needs)
+    (λ c. search needs)
+    (λ c κs. search needs)
+    (λ c. search needs)
+    (λ c κs. search needs)
+    (λ c. search needs)
+    (λ c κs. search needs)
+    (λ c. search needs)
+    (λ c κs. search needs)
     returns
     returns-2
     returns-3

@@ -9,12 +9,6 @@ use borrow.Author.Needs.{needs}
 use Rattle.host.proofs.steam_book.neapscroll_steam_open.Statement.{statement}
 use Rattle.host.proofs.steam_book.neapscroll_steam_open.Tie as tie
 
-open-requires : tie.Need-open-requires
-open-requires c κs = search needs
-
-reply-with-requires : tie.Need-reply-with-requires
-reply-with-requires c κs = search needs
-
 returns : tie.Need-returns
 returns c = let f = c .before .before .fits in
     c .reply-with .ensures
@@ -23,4 +17,4 @@ returns c = let f = c .before .before .fits in
     ∙ (λ i. openedOf (mmbtu (toZ-ofZ (f .first) i) ∷ mmbtu (toZ-ofZ (f .second) i) ∷ mmbtu (toZ-ofZ (f .third) i) ∷ mmbtu (toZ-ofZ (f .fourth) i) ∷ [])))
 
 pub neapscroll-steam-open-spec : {M : Type 1} → statement M
-neapscroll-steam-open-spec = tie.close (tie.spec open-requires reply-with-requires returns)
+neapscroll-steam-open-spec = tie.close (tie.spec (λ c κs. search needs) (λ c κs. search needs) returns)

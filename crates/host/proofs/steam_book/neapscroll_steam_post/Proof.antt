@@ -5,14 +5,8 @@ use Rattle.host.proofs.steam_book.neapscroll_steam_post.Statement.{stat
 use Rattle.host.specs.Replies.{steamReply}
 use Rattle.host.proofs.steam_book.neapscroll_steam_post.Tie as tie
 
-post-requires : tie.Need-post-requires
-post-requires c κs = search needs
-
-reply-with-requires : tie.Need-reply-with-requires
-reply-with-requires c κs = search needs
-
 returns : tie.Need-returns
 returns c = c .reply-with .ensures ∙ ap steamReply (c .before .post .ensures)
 
 pub neapscroll-steam-post-spec : {M : Type 1} → statement M
-neapscroll-steam-post-spec = tie.close (tie.spec post-requires reply-with-requires returns)
+neapscroll-steam-post-spec = tie.close (tie.spec (λ c κs. search needs) (λ c κs. search needs) returns)

@@ -13,8 +13,5 @@ returns c =
     let g : SFits w64 (s .b .0) = search needs in
     eq-bits f g (c .if1 .taken)
 
-returns-2 : tie.Need-returns-2
-returns-2 c = search needs
-
 pub first-if-equal-spec : {M : Type 1} → statement M
-first-if-equal-spec = tie.close (tie.spec returns returns-2)
+first-if-equal-spec = tie.close (tie.spec returns (λ c. search needs))

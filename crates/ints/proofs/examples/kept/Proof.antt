@@ -11,9 +11,6 @@ use Rattle.ints.specs.Range.{inRange}
 use Rattle.ints.specs.Machine.{tested, tested-not}
 use Rattle.ints.proofs.examples.kept.Tie as tie
 
-in-range-requires : tie.Need-in-range-requires
-in-range-requires c κs = search needs
-
 returns : tie.Need-returns
 returns c =
     let f : SFits w64 (c .before .before .before .args .money .0) = search needs in
@@ -23,9 +20,6 @@ inside : (c : tie.Else1) → inRange (negsuc 99) (pos 100) (c .before .before .b
 inside c =
     let f : SFits w64 (c .before .before .before .args .money .0) = search needs in
     tested-not (inRange (negsuc 99) (pos 100)) f (c .before .in-range .ensures) (c .if1 .left)
-
-in-range-requires-2 : tie.Need-in-range-requires-2
-in-range-requires-2 c κs = search needs
 
 returns-2 : tie.Need-returns-2
 returns-2 c =
@@ -38,4 +32,4 @@ returns-3 c =
     simp (inside (c .before .before .before), tested (inRange (pos 0) (pos 9)) f (c .before .in-range2 .ensures) (c .if2 .left))
 
 pub kept-spec : {M : Type 1} → statement M
-kept-spec = tie.close (tie.spec in-range-requires returns in-range-requires-2 returns-2 returns-3)
+kept-spec = tie.close (tie.spec (λ c κs. search needs) returns (λ c κs. search needs) returns-2 returns-3)

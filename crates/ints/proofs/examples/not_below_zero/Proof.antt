@@ -4,11 +4,8 @@ use Rattle.ints.proofs.examples.not_below_zero.Statement.{statement}
 use Rattle.ints.specs.Order.{signed}
 use Rattle.ints.proofs.examples.not_below_zero.Tie as tie
 
-returns : tie.Need-returns
-returns c = search needs
-
 returns-2 : tie.Need-returns-2
 returns-2 c = omega signed
 
 pub not-below-zero-spec : {M : Type 1} → statement M
-not-below-zero-spec = tie.close (tie.spec returns returns-2)
+not-below-zero-spec = tie.close (tie.spec (λ c. search needs) returns-2)

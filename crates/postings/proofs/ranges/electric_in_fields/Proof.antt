@@ -9,42 +9,6 @@ use Rattle.postings.specs.Kinds.{kindOf, fieldsOf, numbersOf, inFields}
 use Rattle.postings.specs.declared.Book.the-variants.{Electric}
 use Rattle.postings.proofs.ranges.electric_in_fields.Tie as tie
 
-first-in-requires : tie.Need-first-in-requires
-first-in-requires c κs = search needs
-
-second-in-requires : tie.Need-second-in-requires
-second-in-requires c κs = search needs
-
-third-in-requires : tie.Need-third-in-requires
-third-in-requires c κs = search needs
-
-first-in-requires-2 : tie.Need-first-in-requires-2
-first-in-requires-2 c κs = search needs
-
-second-in-requires-2 : tie.Need-second-in-requires-2
-second-in-requires-2 c κs = search needs
-
-first-in-requires-3 : tie.Need-first-in-requires-3
-first-in-requires-3 c κs = search needs
-
-second-in-requires-3 : tie.Need-second-in-requires-3
-second-in-requires-3 c κs = search needs
-
-first-in-requires-4 : tie.Need-first-in-requires-4
-first-in-requires-4 c κs = search needs
-
-second-in-requires-4 : tie.Need-second-in-requires-4
-second-in-requires-4 c κs = search needs
-
-first-in-requires-5 : tie.Need-first-in-requires-5
-first-in-requires-5 c κs = search needs
-
-first-in-requires-6 : tie.Need-first-in-requires-6
-first-in-requires-6 c κs = search needs
-
-second-in-requires-5 : tie.Need-second-in-requires-5
-second-in-requires-5 c κs = search needs
-
 returns : tie.Need-returns
 unfolding fieldsOf kindOf
 returns c = let s = c .before .before .before .before .args .posting in
@@ -85,18 +49,18 @@ pub electric-in-fields-spec : {M : Type 1} → statement M
 electric-in-fields-spec =
     tie.close
     (tie.spec
-    first-in-requires
-    second-in-requires
-    third-in-requires
-    first-in-requires-2
-    second-in-requires-2
-    first-in-requires-3
-    second-in-requires-3
-    first-in-requires-4
-    second-in-requires-4
-    first-in-requires-5
-    first-in-requires-6
-    second-in-requires-5
+    (λ c κs. search needs)
+    (λ c κs. search needs)
+    (λ c κs. search needs)
+    (λ c κs. search needs)
+    (λ c κs. search needs)
+    (λ c κs. search needs)
+    (λ c κs. search needs)
+    (λ c κs. search needs)
+    (λ c κs. search needs)
+    (λ c κs. search needs)
+    (λ c κs. search needs)
+    (λ c κs. search needs)
     returns
     returns-2
     returns-3

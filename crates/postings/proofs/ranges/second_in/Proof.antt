@@ -8,13 +8,10 @@ use Rattle.ints.specs.Range.{inRange}
 use Rattle.postings.proofs.ranges.second_in.Statement.{statement}
 use Rattle.postings.proofs.ranges.second_in.Tie as tie
 
-in-range-requires : tie.Need-in-range-requires
-in-range-requires c κs = search needs
-
 returns : tie.Need-returns
 returns c = let s = c .before .before in
     let f : SFits w64 (s .args .posting .second) = search needs in
     c .in-range .ensures ∙ (λ i. inRange (toZ-ofZ (s .fits .low) i) (toZ-ofZ (s .fits .high) i) (toZ-ofZ f i))
 
 pub second-in-spec : {M : Type 1} → statement M
-second-in-spec = tie.close (tie.spec in-range-requires returns)
+second-in-spec = tie.close (tie.spec (λ c κs. search needs) returns)

@@ -8,21 +8,6 @@ use Rattle.records.proofs.FieldBytes.{value-parts}
 use Rattle.records.proofs.fields.bits_at.Statement.{statement}
 use Rattle.records.proofs.fields.bits_at.Tie as tie
 
-quad-at-requires : tie.Need-quad-at-requires
-quad-at-requires c κs = search needs
-
-mul-result : tie.Need-mul-result
-mul-result c = search needs
-
-add-quad-at : tie.Need-add-quad-at
-add-quad-at c = search needs
-
-quad-at-requires-2 : tie.Need-quad-at-requires-2
-quad-at-requires-2 c κs = search needs
-
-add-result : tie.Need-add-result
-add-result c = search needs
-
 returns : tie.Need-returns
 returns c = let s = c .before .before .before in
     let l : s .args .at + 4 + 4 ≤ length (now (s .args .bytes)) = omega arith in
@@ -31,4 +16,4 @@ returns c = let s = c .before .before .before in
 pub bits-at-spec : {M : Type 1} → statement M
 bits-at-spec =
     tie.close
-    (tie.spec quad-at-requires mul-result add-quad-at quad-at-requires-2 add-result returns)
+    (tie.spec (λ c κs. search needs) (λ c. search needs) (λ c. search needs) (λ c κs. search needs) (λ c. search needs) returns)

@@ -7,15 +7,9 @@ use Rattle.records.proofs.fields.field_at.Statement.{statement}
 use Rattle.records.specs.Fields.{twosComplement, fieldOf}
 use Rattle.records.proofs.fields.field_at.Tie as tie
 
-bits-at-requires : tie.Need-bits-at-requires
-bits-at-requires c κs = search needs
-
-number-of-requires : tie.Need-number-of-requires
-number-of-requires c κs = search needs
-
 returns : tie.Need-returns
 unfolding fieldOf
 returns c = reads w64 (c .number-of .result) (c .number-of .ok) ∙ c .number-of .ensures ∙ ap twosComplement (c .before .bits-at .ensures)
 
 pub field-at-spec : {M : Type 1} → statement M
-field-at-spec = tie.close (tie.spec bits-at-requires number-of-requires returns)
+field-at-spec = tie.close (tie.spec (λ c κs. search needs) (λ c κs. search needs) returns)

@@ -9,12 +9,6 @@ use Rattle.records.proofs.FieldBytes.{twos-is}
 use Rattle.records.proofs.fields.number_of.Statement.{statement}
 use Rattle.records.proofs.fields.number_of.Tie as tie
 
-cast-result : tie.Need-cast-result
-cast-result c = search needs
-
-cast-result-2 : tie.Need-cast-result-2
-cast-result-2 c = search needs
-
 returns : tie.Need-returns
 returns c = twos-is (c .before .args .bits) (omega arith)
 
@@ -24,4 +18,4 @@ returns-2 c = let n = c .before .args .bits in
     ap (toZ w64) back ∙ twos-is n (omega arith)
 
 pub number-of-spec : {M : Type 1} → statement M
-number-of-spec = tie.close (tie.spec cast-result cast-result-2 returns returns-2)
+number-of-spec = tie.close (tie.spec (λ c. search needs) (λ c. search needs) returns returns-2)

@@ -10,22 +10,10 @@ use Rattle.records.proofs.FieldBytes.{stored-parts}
 use Rattle.records.proofs.fields.put_bits.Statement.{statement}
 use Rattle.records.proofs.fields.put_bits.Tie as tie
 
-put-quad-requires : tie.Need-put-quad-requires
-put-quad-requires c κs = search needs
-
-add-put-quad : tie.Need-add-put-quad
-add-put-quad c = search needs
-
-put-quad-requires-2 : tie.Need-put-quad-requires-2
-put-quad-requires-2 c κs = search needs
-
-same-length : tie.Need-same-length
-same-length c = search needs
-
 returns : tie.Need-returns
 returns c = let s = c .before .before .before .before .before .before .before .before .before in
     c .before .before .put-quad2 .ensures ∙ ap (λ (l : List ℕ). sets l (s .args .at + 4) (digits 256 4 (s .args .n))) (c .before .before .before .before .before .before .put-quad .ensures) ∙ stored-parts (now (s .args .buffer)) (s .args .at) 4 4 (s .args .n)
 
 pub put-bits-spec : {M : Type 1} → statement M
 put-bits-spec =
-    tie.close (tie.spec put-quad-requires add-put-quad put-quad-requires-2 same-length returns)
+    tie.close (tie.spec (λ c κs. search needs) (λ c. search needs) (λ c κs. search needs) (λ c. search needs) returns)

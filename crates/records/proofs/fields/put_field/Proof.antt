@@ -22,9 +22,6 @@ returns c = let z : c .before .before .args .number ≡ pos 0 = eq-bits (c .befo
     let e = no-field _ z in
     (omega (arith, ap length e), ap (sets (now (c .before .before .args .buffer)) (c .before .before .args .at)) (sym e))
 
-bits-of-requires : tie.Need-bits-of-requires
-bits-of-requires c κs = search needs
-
 field : (c : tie.Else1) → bytesOf (c .before .before .args .number) ≡ digits 256 8 (bitsOf (c .before .before .args .number))
 field c = a-field _ (λ z. c .if1 .left (ap (ofZ w64) z))
 
@@ -33,12 +30,6 @@ field-long c = ap length (field c) ∙ length-digits 256 8 _
 
 put-bits-requires : tie.Need-put-bits-requires
 put-bits-requires c κs = omega (arith, c .before .before .before .before .pre, field-long (c .before .before))
-
-add-result : tie.Need-add-result
-add-result c = search needs
-
-same-length : tie.Need-same-length
-same-length c = search needs
 
 returns-2 : tie.Need-returns-2
 returns-2 c =
@@ -49,4 +40,4 @@ returns-2 c =
 pub put-field-spec : {M : Type 1} → statement M
 put-field-spec =
     tie.close
-    (tie.spec returns bits-of-requires put-bits-requires add-result same-length returns-2)
+    (tie.spec returns (λ c κs. search needs) put-bits-requires (λ c. search needs) (λ c. search needs) returns-2)

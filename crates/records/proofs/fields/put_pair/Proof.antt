@@ -9,23 +9,8 @@ use Rattle.ints.specs.Digits.{digits}
 use Rattle.records.proofs.fields.put_pair.Statement.{statement}
 use Rattle.records.proofs.fields.put_pair.Tie as tie
 
-cast-high : tie.Need-cast-high
-cast-high c = search needs
-
-cast-low : tie.Need-cast-low
-cast-low c = search needs
-
-slice-write-buffer : tie.Need-slice-write-buffer
-slice-write-buffer c = search needs
-
-add-buffer : tie.Need-add-buffer
-add-buffer c = search needs
-
 slice-write-buffer-2 : tie.Need-slice-write-buffer-2
 slice-write-buffer-2 c = omega (arith, length-set (c .args .buffer .now) (c .args .at) (c .args .n / 256 % 256))
-
-same-length : tie.Need-same-length
-same-length c = search needs
 
 returns : tie.Need-returns
 unfolding digits
@@ -36,10 +21,10 @@ pub put-pair-spec : {M : Type 1} → statement M
 put-pair-spec =
     tie.close
     (tie.spec
-    cast-high
-    cast-low
-    slice-write-buffer
-    add-buffer
+    (λ c. search needs)
+    (λ c. search needs)
+    (λ c. search needs)
+    (λ c. search needs)
     slice-write-buffer-2
-    same-length
+    (λ c. search needs)
     returns)

@@ -10,22 +10,10 @@ use Rattle.records.proofs.FieldBytes.{stored-parts}
 use Rattle.records.proofs.fields.put_quad.Statement.{statement}
 use Rattle.records.proofs.fields.put_quad.Tie as tie
 
-put-pair-requires : tie.Need-put-pair-requires
-put-pair-requires c κs = search needs
-
-add-put-pair : tie.Need-add-put-pair
-add-put-pair c = search needs
-
-put-pair-requires-2 : tie.Need-put-pair-requires-2
-put-pair-requires-2 c κs = search needs
-
-same-length : tie.Need-same-length
-same-length c = search needs
-
 returns : tie.Need-returns
 returns c = let s = c .before .before .before .before .before .before .before .before .before in
     c .before .before .put-pair2 .ensures ∙ ap (λ (l : List ℕ). sets l (s .args .at + 2) (digits 256 2 (s .args .n))) (c .before .before .before .before .before .before .put-pair .ensures) ∙ stored-parts (now (s .args .buffer)) (s .args .at) 2 2 (s .args .n)
 
 pub put-quad-spec : {M : Type 1} → statement M
 put-quad-spec =
-    tie.close (tie.spec put-pair-requires add-put-pair put-pair-requires-2 same-length returns)
+    tie.close (tie.spec (λ c κs. search needs) (λ c. search needs) (λ c κs. search needs) (λ c. search needs) returns)

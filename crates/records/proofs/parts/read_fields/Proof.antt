@@ -16,9 +16,6 @@ use Rattle.records.specs.Steps.{stepAt}
 use Rattle.records.specs.declared.parts.Step.{Step}
 use Rattle.records.proofs.parts.read_fields.Tie as tie
 
-add-step-at : tie.Need-add-step-at
-add-step-at c = search needs
-
 step-at-requires : tie.Need-step-at-requires
 step-at-requires c κs = let s = c .before in
     omega (arith, next-is (now (s .args .bytes)) (s .args .place + 2) (bit₁ (s .args .bitmap)), length-three (s .args .bitmap) (s .pre .0), s .pre .1)
@@ -52,9 +49,6 @@ number f = f .number
 abbrev empty : Step → Bool
 empty f = f .empty
 
-refused-requires : tie.Need-refused-requires
-refused-requires c κs = search needs
-
 returns : tie.Need-returns
 returns c =
     let e₁ = stepped₁ (c .before .before .before .before .before .before .before) in
@@ -78,10 +72,10 @@ pub read-fields-spec : {M : Type 1} → statement M
 read-fields-spec =
     tie.close
     (tie.spec
-    add-step-at
+    (λ c. search needs)
     step-at-requires
     step-at-requires-2
     step-at-requires-3
-    refused-requires
+    (λ c κs. search needs)
     returns
     returns-2)

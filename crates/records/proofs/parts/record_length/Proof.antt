@@ -6,18 +6,9 @@ use Rattle.records.proofs.parts.record_length.Statement.{statement}
 use Rattle.records.specs.Records.{recordLength}
 use Rattle.records.proofs.parts.record_length.Tie as tie
 
-field-count-requires : tie.Need-field-count-requires
-field-count-requires c κs = search needs
-
-mul-result : tie.Need-mul-result
-mul-result c = search needs
-
-add-result : tie.Need-add-result
-add-result c = search needs
-
 returns : tie.Need-returns
 unfolding recordLength
 returns c = ap (λ (k : ℕ). 2 + 8 * k) (c .field-count .ensures .0)
 
 pub record-length-spec : {M : Type 1} → statement M
-record-length-spec = tie.close (tie.spec field-count-requires mul-result add-result returns)
+record-length-spec = tie.close (tie.spec (λ c κs. search needs) (λ c. search needs) (λ c. search needs) returns)

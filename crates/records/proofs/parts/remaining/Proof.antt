@@ -9,11 +9,8 @@ use Rattle.records.proofs.parts.remaining.Tie as tie
 returns : tie.Need-returns
 returns c = omega (arith, length-drop (c .before .args .place) (now (c .before .args .bytes)))
 
-sub-result : tie.Need-sub-result
-sub-result c = search needs
-
 returns-2 : tie.Need-returns-2
 returns-2 c = omega (arith, length-drop (c .before .args .place) (now (c .before .args .bytes)))
 
 pub remaining-spec : {M : Type 1} → statement M
-remaining-spec = tie.close (tie.spec returns sub-result returns-2)
+remaining-spec = tie.close (tie.spec returns (λ c. search needs) returns-2)

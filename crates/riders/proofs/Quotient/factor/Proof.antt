@@ -14,15 +14,6 @@ use Rattle.riders.proofs.Quotient.factor.Statement.{statement}
 use Rattle.riders.specs.Runs.{narrowed-in, narrowed-beyond}
 use Rattle.riders.proofs.Quotient.factor.Tie as tie
 
-cast-in-range : tie.Need-cast-in-range
-cast-in-range c = search needs
-
-cast-in-range-2 : tie.Need-cast-in-range-2
-cast-in-range-2 c = search needs
-
-in-range-requires : tie.Need-in-range-requires
-in-range-requires c κs = search needs
-
 inside : (c : tie.Then1) → pointsInLimits (points (c .before .before .before .args .self .0)) ≡ true
 unfolding pointsInLimits
 inside c =
@@ -39,9 +30,6 @@ returns c = let q = c .before .before .before .before .before .args .self .0 in
     let e : toZ w32 (ofZ w32 (toZ w64 (ofZ w64 q))) ≡ q = exact (search (exacts, w) depth 30) tt in
     same-points (e ∙ sym (narrowed-in q t))
 
-add-t6 : tie.Need-add-t6
-add-t6 c = search needs
-
 returns-2 : tie.Need-returns-2
 unfolding pointsInLimits
 returns-2 c = let q = c .before .before .before .args .self .0 in
@@ -51,4 +39,4 @@ returns-2 c = let q = c .before .before .before .args .self .0 in
 pub factor-spec : {M : Type 1} → statement M
 factor-spec =
     tie.close
-    (tie.spec cast-in-range cast-in-range-2 in-range-requires cast-t5 returns add-t6 returns-2)
+    (tie.spec (λ c. search needs) (λ c. search needs) (λ c κs. search needs) cast-t5 returns (λ c. search needs) returns-2)

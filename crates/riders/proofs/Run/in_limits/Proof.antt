@@ -5,15 +5,9 @@ use Rattle.riders.proofs.Run.in_limits.Statement.{statement}
 use Rattle.riders.specs.Runs.{runInLimits}
 use Rattle.riders.proofs.Run.in_limits.Tie as tie
 
-in-limits-requires : tie.Need-in-limits-requires
-in-limits-requires c κs = search needs
-
-in-limits-requires-2 : tie.Need-in-limits-requires-2
-in-limits-requires-2 c κs = search needs
-
 returns : tie.Need-returns
 unfolding runInLimits
 returns c = λ i. c .before .in-limits .ensures i && c .in-limits2 .ensures i
 
 pub in-limits-spec : {M : Type 1} → statement M
-in-limits-spec = tie.close (tie.spec in-limits-requires in-limits-requires-2 returns)
+in-limits-spec = tie.close (tie.spec (λ c κs. search needs) (λ c κs. search needs) returns)

@@ -6,9 +6,6 @@ use Rattle.riders.proofs.months.month_after.Statement.{statement}
 use Rattle.riders.specs.Months.{monthAfter}
 use Rattle.riders.proofs.months.month_after.Tie as tie
 
-add-result : tie.Need-add-result
-add-result c = search needs
-
 returns : tie.Need-returns
 unfolding monthAfter
 returns c = sym (simp (lt-ltb _ _ (c .if1 .taken)))
@@ -18,4 +15,4 @@ unfolding monthAfter
 returns-2 c = sym (simp (le-ltb _ _ (c .if1 .left)))
 
 pub month-after-spec : {M : Type 1} → statement M
-month-after-spec = tie.close (tie.spec add-result returns returns-2)
+month-after-spec = tie.close (tie.spec (λ c. search needs) returns returns-2)

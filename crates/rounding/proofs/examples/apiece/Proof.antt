@@ -9,11 +9,8 @@ use Rattle.rounding.proofs.examples.apiece.Tie as tie
 mul-round-div : tie.Need-mul-round-div
 mul-round-div c = fits64 (search bounds depth 30) tt
 
-round-div-requires : tie.Need-round-div-requires
-round-div-requires c κs = search needs
-
 returns : tie.Need-returns
 returns c = exact (search (exacts, rounds-any, e-eq) depth 30) tt
 
 pub apiece-spec : {M : Type 1} → statement M
-apiece-spec = tie.close (tie.spec mul-round-div round-div-requires returns)
+apiece-spec = tie.close (tie.spec mul-round-div (λ c κs. search needs) returns)

@@ -9,9 +9,6 @@ use Rattle.rounding.proofs.examples.hundredths.Tie as tie
 mul-round-div : tie.Need-mul-round-div
 mul-round-div c = fits64 (search bounds depth 30) tt
 
-round-div-requires : tie.Need-round-div-requires
-round-div-requires c κs = search needs
-
 sub-result : tie.Need-sub-result
 sub-result c = fits64 (search (bounds, rounds, b-eq) depth 30) tt
 
@@ -19,4 +16,4 @@ returns : tie.Need-returns
 returns c = exact (search (exacts, rounds, e-eq) depth 30) tt
 
 pub hundredths-spec : {M : Type 1} → statement M
-hundredths-spec = tie.close (tie.spec mul-round-div round-div-requires sub-result returns)
+hundredths-spec = tie.close (tie.spec mul-round-div (λ c κs. search needs) sub-result returns)

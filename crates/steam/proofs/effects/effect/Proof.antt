@@ -4,7 +4,7 @@ use borrow.Author.Needs.{needs}
 use Rattle.postings.specs.Kinds.{kindOf}
 use Rattle.postings.specs.Ranged.{ranged-as}
 use Rattle.postings.specs.declared.Book.the-variants.{Steam}
-use Rattle.steam.proofs.Ready.{stored-as-kind, is-reconciliation}
+use Rattle.steam.proofs.ByKind.{stored-as-kind, is-reconciliation}
 use Rattle.steam.proofs.effects.effect.Statement.{statement}
 use Rattle.steam.specs.Stored.{storedOr12}
 use Rattle.steam.proofs.effects.effect.Tie as tie
@@ -27,9 +27,6 @@ post-bill-requires c κs = (c .before .pre .0, ranged-as Steam (c .before .args 
 post-settlement-requires : tie.Need-post-settlement-requires
 unfolding kindOf
 post-settlement-requires c κs = (c .before .pre .0, ranged-as Steam (c .before .args .posting) (c .match .keys4) (c .before .pre .1))
-
-post-month-end-requires : tie.Need-post-month-end-requires
-post-month-end-requires c κs = search needs
 
 post-adjustment-requires : tie.Need-post-adjustment-requires
 unfolding kindOf
@@ -75,7 +72,7 @@ effect-spec =
     post-sales-requires
     post-bill-requires
     post-settlement-requires
-    post-month-end-requires
+    (λ c κs. search needs)
     post-adjustment-requires
     post-reconciliation-requires
     returns

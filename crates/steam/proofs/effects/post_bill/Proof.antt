@@ -6,15 +6,6 @@ use Rattle.steam_rules.specs.Next.{withDues, billLine, billPosted, nextAt, answ
 use Rattle.steam.proofs.effects.post_bill.Statement.{statement}
 use Rattle.steam.proofs.effects.post_bill.Tie as tie
 
-lines-of-requires : tie.Need-lines-of-requires
-lines-of-requires c κs = search needs
-
-dues-less-requires : tie.Need-dues-less-requires
-dues-less-requires c κs = search needs
-
-reconciliation-less-requires : tie.Need-reconciliation-less-requires
-reconciliation-less-requires c κs = search needs
-
 returns : tie.Need-returns
 unfolding nextAt answerAt billPosted billLine
 returns c = let b = c .before .before .before .before .args .book in
@@ -22,4 +13,4 @@ returns c = let b = c .before .before .before .before .args .book in
 
 pub post-bill-spec : {M : Type 1} → statement M
 post-bill-spec =
-    tie.close (tie.spec lines-of-requires dues-less-requires reconciliation-less-requires returns)
+    tie.close (tie.spec (λ c κs. search needs) (λ c κs. search needs) (λ c κs. search needs) returns)

@@ -6,13 +6,10 @@ use Rattle.steam_rules.specs.Next.{withPeriod, salesPosted, nextAt, answerAt}
 use Rattle.steam.proofs.effects.post_sales.Statement.{statement}
 use Rattle.steam.proofs.effects.post_sales.Tie as tie
 
-sales-added-requires : tie.Need-sales-added-requires
-sales-added-requires c κs = search needs
-
 returns : tie.Need-returns
 unfolding nextAt answerAt salesPosted
 returns c = let b = c .before .args .book in
     λ i. posted Done (withPeriod b (c .sales-added .ensures i))
 
 pub post-sales-spec : {M : Type 1} → statement M
-post-sales-spec = tie.close (tie.spec sales-added-requires returns)
+post-sales-spec = tie.close (tie.spec (λ c κs. search needs) returns)

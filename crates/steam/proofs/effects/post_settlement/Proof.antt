@@ -14,20 +14,11 @@ use Rattle.steam_rules.specs.Settlement.{determinantsOf}
 use Rattle.steam_rules.specs.Next.{settledWith, filedFactor}
 use Rattle.steam_rules.specs.Quarters.{determinants-within}
 use Rattle.steam_rules.specs.Sizes.{share-within}
-use Rattle.steam_refusals.specs.Determinants.{determinantsOr0, determinantsOr0-is}
+use Rattle.steam_settlement.specs.Determinants.{determinantsOr0, determinantsOr0-is}
 use Rattle.steam.proofs.Settling.{settled-alike}
 use Rattle.steam.proofs.effects.post_settlement.Statement.{statement}
 use Rattle.steam.specs.Stored.{storedOr12}
 use Rattle.steam.proofs.effects.post_settlement.Tie as tie
-
-shareable-of-requires : tie.Need-shareable-of-requires
-shareable-of-requires c κs = search needs
-
-share-of-requires : tie.Need-share-of-requires
-share-of-requires c κs = search needs
-
-determinants-of-requires : tie.Need-determinants-of-requires
-determinants-of-requires c κs = search needs
 
 -- the determinants are the rules', since all amounts are within their limits
 determined : (c : tie.After-determinants-of) → let s = c .before .before .before .before .before .args in c .determinants-of .result ≡ mmbtu (determinantsOf (s .book .period .sales .0) (s .book .quarters) (s .posting .first))
@@ -45,15 +36,6 @@ factor-for-requires c κs = let s = c .before .before .before .before .before .a
     let determinants : Within 500000000 (c .determinants-of .result .0) = between-same (λ i. determined c i .0) (determinants-within (s .book .period .sales .0) (s .book .quarters) (w .0 .period .sales) (w .0 .quarters) (s .posting .first) (w .1 .0)) in
     (between-same (λ i. c .before .before .share-of .ensures i .0) (share-within (s .book .period) (w .0 .period)), omega signed)
 
-period-after-requires : tie.Need-period-after-requires
-period-after-requires c κs = search needs
-
-shifted-requires : tie.Need-shifted-requires
-shifted-requires c κs = search needs
-
-settled-with-requires : tie.Need-settled-with-requires
-settled-with-requires c κs = search needs
-
 returns : tie.Need-returns
 unfolding filedFactor
 returns c = let b = c .before .before .before .before .before .before .before .before .before .args .book in
@@ -67,11 +49,11 @@ pub post-settlement-spec : {M : Type 1} → statement M
 post-settlement-spec =
     tie.close
     (tie.spec
-    shareable-of-requires
-    share-of-requires
-    determinants-of-requires
+    (λ c κs. search needs)
+    (λ c κs. search needs)
+    (λ c κs. search needs)
     factor-for-requires
-    period-after-requires
-    shifted-requires
-    settled-with-requires
+    (λ c κs. search needs)
+    (λ c κs. search needs)
+    (λ c κs. search needs)
     returns)

@@ -10,9 +10,6 @@ use Rattle.steam_rules.proofs.Mmbtu.in_limits.Statement.{statement}
 use Rattle.steam_rules.specs.Limits.{mmbtuInLimits}
 use Rattle.steam_rules.proofs.Mmbtu.in_limits.Tie as tie
 
-in-range-requires : tie.Need-in-range-requires
-in-range-requires c κs = search needs
-
 returns : tie.Need-returns
 unfolding mmbtuInLimits
 returns c = let s = c .before .before .args .self in
@@ -20,4 +17,4 @@ returns c = let s = c .before .before .args .self in
     c .in-range .ensures ∙ ap (inRange (pos 0) (pos 100000000)) (toZ-ofZ f)
 
 pub in-limits-spec : {M : Type 1} → statement M
-in-limits-spec = tie.close (tie.spec in-range-requires returns)
+in-limits-spec = tie.close (tie.spec (λ c κs. search needs) returns)

@@ -6,11 +6,8 @@ use Rattle.steam_rules.proofs.Reconciliation.none.Statement.{statement}
 use Rattle.steam_rules.specs.Book.{reconciliationOf}
 use Rattle.steam_rules.proofs.Reconciliation.none.Tie as tie
 
-none-requires : tie.Need-none-requires
-none-requires c κs = search needs
-
 returns : tie.Need-returns
 returns c = ap (λ (r : Run). reconciliationOf r 0) (c .none .ensures)
 
 pub none-spec : {M : Type 1} → statement M
-none-spec = tie.close (tie.spec none-requires returns)
+none-spec = tie.close (tie.spec (λ c κs. search needs) returns)

@@ -11,15 +11,6 @@ use Rattle.steam_rules.specs.declared.SteamBook.{SteamBook}
 use Rattle.steam_rules.specs.Book.{four}
 use Rattle.steam_rules.proofs.SteamBook.fresh.Tie as tie
 
-none-requires : tie.Need-none-requires
-none-requires c κs = search needs
-
-none-requires-2 : tie.Need-none-requires-2
-none-requires-2 c κs = search needs
-
-none-requires-3 : tie.Need-none-requires-3
-none-requires-3 c κs = search needs
-
 returns : tie.Need-returns
 returns c = let quarters = c .before .before .before .args .quarters in
     let part : Period → Run → Reconciliation → SteamBook = λ period pending reconciliation.
@@ -38,4 +29,4 @@ returns c = let quarters = c .before .before .before .args .quarters in
     λ i. part (c .before .before .none .ensures i) (c .before .none2 .ensures i) (c .none3 .ensures i)
 
 pub fresh-spec : {M : Type 1} → statement M
-fresh-spec = tie.close (tie.spec none-requires none-requires-2 none-requires-3 returns)
+fresh-spec = tie.close (tie.spec (λ c κs. search needs) (λ c κs. search needs) (λ c κs. search needs) returns)

@@ -10,19 +10,10 @@ use Rattle.steam_rules.specs.Book.{posted, refused}
 use Rattle.steam_rules.specs.Opening.{openedOf}
 use Rattle.steam_rules.proofs.SteamBook.open.Tie as tie
 
-quarters-in-limits-requires : tie.Need-quarters-in-limits-requires
-quarters-in-limits-requires c κs = search needs
-
-fresh-requires : tie.Need-fresh-requires
-fresh-requires c κs = search needs
-
 returns : tie.Need-returns
 unfolding openedOf
 returns c = let e = sym (c .before .before .quarters-in-limits .ensures) ∙ c .before .if1 .taken in
     (λ i. posted Done (c .fresh .ensures i)) ∙ sym (row-passed 7 _ _ (ap not e))
-
-fresh-requires-2 : tie.Need-fresh-requires-2
-fresh-requires-2 c κs = search needs
 
 returns-2 : tie.Need-returns-2
 unfolding openedOf
@@ -32,4 +23,4 @@ returns-2 c = let e = sym (c .before .before .quarters-in-limits .ensures) ∙ c
 pub open-spec : {M : Type 1} → statement M
 open-spec =
     tie.close
-    (tie.spec quarters-in-limits-requires fresh-requires returns fresh-requires-2 returns-2)
+    (tie.spec (λ c κs. search needs) (λ c κs. search needs) returns (λ c κs. search needs) returns-2)
