@@ -2,3 +2,4 @@
 pub mod Storing
 pub mod Running
 pub mod Openings
+pub mod Examples

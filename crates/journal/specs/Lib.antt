@@ -2,4 +2,5 @@
 -- functions.
 pub mod Lines
 pub mod Journal
+pub mod Examples
 pub mod Steps

@@ -8,7 +8,7 @@ use Rattle.postings.specs.declared.Book.the-variants.{Electric, Steam}
 use Rattle.records.specs.Records.{foundAt, readOf, postingOf}
 
 -- 00 | 01 01 00000000001E8480 | 03 02 00000000000003E8 | 04 03 0000000000000001 0000000000000001
-abbrev journal : List ℕ
+abbrev pub journal : List ℕ
 journal =
     0x00
     ∷ 0x01 ∷ 0x01 ∷ 0x00 ∷ 0x00 ∷ 0x00 ∷ 0x00 ∷ 0x00 ∷ 0x1E ∷ 0x84 ∷ 0x80
