@@ -11,30 +11,6 @@ use Rattle.amounts.specs.Text.{textWritten, written-within}
 use Rattle.console.proofs.run.Statement.{statement}
 use Rattle.console.proofs.run.Tie as tie
 
-input-buffer-requires : tie.Need-input-buffer-requires
-input-buffer-requires c κs = search needs
-
-slice-aggregate-read-full : tie.Need-slice-aggregate-read-full
-slice-aggregate-read-full c = search needs
-
-read-full-requires : tie.Need-read-full-requires
-read-full-requires c κs = search needs
-
-output-buffer-requires : tie.Need-output-buffer-requires
-output-buffer-requires c κs = search needs
-
-array-share-prefix-bytes : tie.Need-array-share-prefix-bytes
-array-share-prefix-bytes c = search needs
-
-slice-aggregate-write : tie.Need-slice-aggregate-write
-slice-aggregate-write c = search needs
-
-slice-aggregate-write-2 : tie.Need-slice-aggregate-write-2
-slice-aggregate-write-2 c = search needs
-
-write-requires : tie.Need-write-requires
-write-requires c κs = search needs
-
 fits : (text buffer after : List ℕ) (w : Written) → w ≡ textWritten text buffer → length after ≡ length buffer → w .length ≤ length after
 fits text buffer after w e l =
     let within : w .length ≤ length buffer = subst (λ (r : Written). r .length ≤ length buffer) (sym e) (written-within text buffer) in
@@ -49,25 +25,7 @@ array-share-prefix-text c = printed c
 slice-aggregate-write-all : tie.Need-slice-aggregate-write-all
 slice-aggregate-write-all c = sym (length-take-le _ _ (printed (c .before)))
 
-write-all-requires : tie.Need-write-all-requires
-write-all-requires c κs = search needs
-
-returns : tie.Need-returns
-returns c = search needs
-
 pub run-spec : {M : Type 1} → statement M
 run-spec =
     tie.close
-    (tie.spec
-    input-buffer-requires
-    slice-aggregate-read-full
-    read-full-requires
-    output-buffer-requires
-    array-share-prefix-bytes
-    slice-aggregate-write
-    slice-aggregate-write-2
-    write-requires
-    array-share-prefix-text
-    slice-aggregate-write-all
-    write-all-requires
-    returns)
+    (tie.spec (λ c κs. search needs) (λ c. search needs) (λ c κs. search needs) (λ c κs. search needs) (λ c. search needs) (λ c. search needs) (λ c. search needs) (λ c κs. search needs) array-share-prefix-text slice-aggregate-write-all (λ c κs. search needs) (λ c. search needs))

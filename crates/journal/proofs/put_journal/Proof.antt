@@ -13,39 +13,15 @@ use Rattle.journal.specs.Journal.{electricLines, steamLines}
 use Rattle.journal.proofs.put_journal.Statement.{statement}
 use Rattle.journal.proofs.put_journal.Tie as tie
 
-put-refused-requires : tie.Need-put-refused-requires
-put-refused-requires c κs = search needs
-
-same-length : tie.Need-same-length
-same-length c = search needs
-
 returns : tie.Need-returns
 returns c = let p = c .before .before .put-refused .ensures in
     let bytes = now (c .before .before .before .before .before .before .before .args .input) in
     (puts-same (too-long bytes (c .before .before .before .before .if1 .taken)) (p .0), omega (arith, p .1, room-some (length bytes)))
 
-put-refused-requires-2 : tie.Need-put-refused-requires-2
-put-refused-requires-2 c κs = search needs
-
-same-length-2 : tie.Need-same-length-2
-same-length-2 c = search needs
-
 returns-2 : tie.Need-returns-2
 returns-2 c = let p = c .before .before .put-refused2 .ensures in
     let bytes = now (c .before .before .before .before .before .before .before .before .args .input) in
     (puts-same (empty bytes (c .before .before .before .before .before .if1 .left) (c .before .before .before .before .if2 .taken)) (p .0), omega (arith, p .1, room-some (length bytes)))
-
-shared-slice-read-first : tie.Need-shared-slice-read-first
-shared-slice-read-first c = search needs
-
-bad-quarters-requires : tie.Need-bad-quarters-requires
-bad-quarters-requires c κs = search needs
-
-put-refused-requires-3 : tie.Need-put-refused-requires-3
-put-refused-requires-3 c κs = search needs
-
-same-length-3 : tie.Need-same-length-3
-same-length-3 c = search needs
 
 returns-3 : tie.Need-returns-3
 returns-3 c = let p = c .before .before .put-refused3 .ensures in
@@ -55,39 +31,18 @@ returns-3 c = let p = c .before .before .put-refused3 .ensures in
 quarters-in-requires : tie.Need-quarters-in-requires
 quarters-in-requires c κs = quarters-there (now (c .before .before .before .before .before .before .before .before .args .input)) (sym (c .before .bad-quarters .ensures) ∙ c .if4 .left)
 
-open-requires : tie.Need-open-requires
-open-requires c κs = search needs
-
 run-requires : tie.Need-run-requires
 run-requires c κs = (quarters-there (now (c .before .before .before .before .before .before .before .before .before .before .before .args .input)) (sym (c .before .before .before .before .bad-quarters .ensures) ∙ c .before .before .before .if4 .left), c .before .before .before .before .before .before .before .before .if1 .left)
-
-same-length-4 : tie.Need-same-length-4
-same-length-4 c = search needs
 
 returns-4 : tie.Need-returns-4
 returns-4 c = let p = c .before .before .run .ensures in
     let bytes = now (c .before .before .before .before .before .before .before .before .before .before .before .before .before .before .args .input) in
     (puts-same (ap (λ (r : steam.Posted). steamLines (r .book) bytes 33) (c .before .before .before .before .«open» .ensures ∙ ap openedOf (c .before .before .before .before .before .quarters-in .ensures)) ∙ steam-is bytes (c .before .before .before .before .before .before .before .before .before .before .before .if1 .left) (c .before .before .before .before .before .before .before .before .before .before .if2 .left) (c .before .before .before .before .before .before .before .before .if3 .taken) (sym (c .before .before .before .before .before .before .before .bad-quarters .ensures) ∙ c .before .before .before .before .before .before .if4 .left)) (p .0), omega (arith, p .1, room-within (length bytes) (c .before .before .before .before .before .before .before .before .before .before .before .if1 .left)))
 
-put-refused-requires-4 : tie.Need-put-refused-requires-4
-put-refused-requires-4 c κs = search needs
-
-same-length-5 : tie.Need-same-length-5
-same-length-5 c = search needs
-
 returns-5 : tie.Need-returns-5
 returns-5 c = let p = c .before .before .put-refused4 .ensures in
     let bytes = now (c .before .before .before .before .before .before .before .before .before .before .before .args .input) in
     (puts-same (bad-electric bytes (c .before .before .before .before .before .before .before .before .if1 .left) (c .before .before .before .before .before .before .before .if2 .left) (c .before .before .before .before .before .if3 .left) (c .before .before .before .before .if5 .taken)) (p .0), omega (arith, p .1, room-some (length bytes)))
-
-open-requires-2 : tie.Need-open-requires-2
-open-requires-2 c κs = search needs
-
-run-requires-2 : tie.Need-run-requires-2
-run-requires-2 c κs = search needs
-
-same-length-6 : tie.Need-same-length-6
-same-length-6 c = search needs
 
 returns-6 : tie.Need-returns-6
 returns-6 c = let p = c .before .before .run2 .ensures in
@@ -97,27 +52,4 @@ returns-6 c = let p = c .before .before .run2 .ensures in
 pub put-journal-spec : {M : Type 1} → statement M
 put-journal-spec =
     tie.close
-    (tie.spec
-    put-refused-requires
-    same-length
-    returns
-    put-refused-requires-2
-    same-length-2
-    returns-2
-    shared-slice-read-first
-    bad-quarters-requires
-    put-refused-requires-3
-    same-length-3
-    returns-3
-    quarters-in-requires
-    open-requires
-    run-requires
-    same-length-4
-    returns-4
-    put-refused-requires-4
-    same-length-5
-    returns-5
-    open-requires-2
-    run-requires-2
-    same-length-6
-    returns-6)
+    (tie.spec (λ c κs. search needs) (λ c. search needs) returns (λ c κs. search needs) (λ c. search needs) returns-2 (λ c. search needs) (λ c κs. search needs) (λ c κs. search needs) (λ c. search needs) returns-3 quarters-in-requires (λ c κs. search needs) run-requires (λ c. search needs) returns-4 (λ c κs. search needs) (λ c. search needs) returns-5 (λ c κs. search needs) (λ c κs. search needs) (λ c. search needs) returns-6)

@@ -6,12 +6,6 @@ use Rattle.journal.proofs.room_for.Statement.{statement}
 use Rattle.journal.specs.Journal.{roomOf}
 use Rattle.journal.proofs.room_for.Tie as tie
 
-mul-result : tie.Need-mul-result
-mul-result c = search needs
-
-add-result : tie.Need-add-result
-add-result c = search needs
-
 returns : tie.Need-returns
 unfolding roomOf
 returns c = simp (lt-ltb _ _ (c .if1 .taken))
@@ -21,4 +15,4 @@ unfolding roomOf
 returns-2 c = simp (le-ltb _ _ (c .if1 .left))
 
 pub room-for-spec : {M : Type 1} → statement M
-room-for-spec = tie.close (tie.spec mul-result add-result returns returns-2)
+room-for-spec = tie.close (tie.spec (λ c. search needs) (λ c. search needs) returns returns-2)

@@ -8,31 +8,13 @@ use Rattle.journal.proofs.Storing.{short, whole}
 use Rattle.journal.proofs.write.Statement.{statement}
 use Rattle.journal.proofs.write.Tie as tie
 
-room-for-requires : tie.Need-room-for-requires
-room-for-requires c κs = search needs
-
-put-journal-requires : tie.Need-put-journal-requires
-put-journal-requires c κs = search needs
-
-same-length : tie.Need-same-length
-same-length c = search needs
-
 returns : tie.Need-returns
 returns c = let p = c .before .before .put-journal .ensures in
     let fits : c .before .before .put-journal .result ≤ length (now (c .before .before .before .before .before .before .before .before .args .buffer)) = omega (arith, p .1, c .before .before .before .before .before .room-for .ensures, c .before .before .before .before .if1 .taken) in
     whole _ _ _ _ (p .0) fits
 
-length-requires : tie.Need-length-requires
-length-requires c κs = search needs
-
 returns-2 : tie.Need-returns-2
 returns-2 c = short _ _ _ (c .before .length .ensures .0) (c .if2 .taken)
-
-put-journal-requires-2 : tie.Need-put-journal-requires-2
-put-journal-requires-2 c κs = search needs
-
-same-length-2 : tie.Need-same-length-2
-same-length-2 c = search needs
 
 returns-3 : tie.Need-returns-3
 returns-3 c = let p = c .before .before .put-journal2 .ensures in
@@ -42,4 +24,4 @@ returns-3 c = let p = c .before .before .put-journal2 .ensures in
 pub write-spec : {M : Type 1} → statement M
 write-spec =
     tie.close
-    (tie.spec room-for-requires put-journal-requires same-length returns length-requires returns-2 put-journal-requires-2 same-length-2 returns-3)
+    (tie.spec (λ c κs. search needs) (λ c κs. search needs) (λ c. search needs) returns (λ c κs. search needs) returns-2 (λ c κs. search needs) (λ c. search needs) returns-3)

@@ -14,9 +14,6 @@ use Rattle.records.proofs.read_field.Statement.{statement}
 use Rattle.records.specs.Fields.{fieldOf, fieldOr0}
 use Rattle.records.proofs.read_field.Tie as tie
 
-remaining-requires : tie.Need-remaining-requires
-remaining-requires c κs = search needs
-
 returns : tie.Need-returns
 unfolding fieldOr0
 returns c = let s = c .before .before .before .args in
@@ -36,4 +33,4 @@ returns-2 c = let s = c .before .before .before .before .args in
     reads w64 (c .field-at .result) (c .field-at .ok) ∙ c .field-at .ensures ∙ simp enough
 
 pub read-field-spec : {M : Type 1} → statement M
-read-field-spec = tie.close (tie.spec remaining-requires returns field-at-requires returns-2)
+read-field-spec = tie.close (tie.spec (λ c κs. search needs) returns field-at-requires returns-2)

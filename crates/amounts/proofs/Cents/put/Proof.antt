@@ -11,12 +11,6 @@ use Rattle.amounts.proofs.Cents.put.Statement.{statement}
 use Rattle.amounts.specs.Text.{centsText, textOf, textLeft}
 use Rattle.amounts.proofs.Cents.put.Tie as tie
 
-put-requires : tie.Need-put-requires
-put-requires c κs = search needs
-
-same-length : tie.Need-same-length
-same-length c = search needs
-
 returns : tie.Need-returns
 unfolding centsText
 returns c = let s = c .before .before .before .before .before .before in
@@ -29,4 +23,4 @@ returns c = let s = c .before .before .before .before .before .before in
     )
 
 pub put-spec : {M : Type 1} → statement M
-put-spec = tie.close (tie.spec put-requires same-length returns)
+put-spec = tie.close (tie.spec (λ c κs. search needs) (λ c. search needs) returns)

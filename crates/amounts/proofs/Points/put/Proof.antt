@@ -15,12 +15,6 @@ use Rattle.amounts.proofs.Points.put.Tie as tie
 cast-put : tie.Need-cast-put
 cast-put c = fits64 (search (bounds, wide32) depth 30) tt
 
-put-requires : tie.Need-put-requires
-put-requires c κs = search needs
-
-same-length : tie.Need-same-length
-same-length c = search needs
-
 returns : tie.Need-returns
 unfolding pointsText
 returns c = let s = c .before .before .before .before .before .before .before in
@@ -32,4 +26,4 @@ returns c = let s = c .before .before .before .before .before .before .before in
     )
 
 pub put-spec : {M : Type 1} → statement M
-put-spec = tie.close (tie.spec cast-put put-requires same-length returns)
+put-spec = tie.close (tie.spec cast-put (λ c κs. search needs) (λ c. search needs) returns)

@@ -6,19 +6,10 @@ use Rattle.amounts.proofs.Points.write.Statement.{statement}
 use Rattle.amounts.specs.Text.{pointsText}
 use Rattle.amounts.proofs.Points.write.Tie as tie
 
-put-requires : tie.Need-put-requires
-put-requires c κs = search needs
-
-written-requires : tie.Need-written-requires
-written-requires c κs = search needs
-
-same-length : tie.Need-same-length
-same-length c = search needs
-
 returns : tie.Need-returns
 returns c =
     let p = c .before .before .before .put in
     (c .written .ensures ∙ answered _ _ _ _ (p .ensures .0) (search needs), p .ensures .2)
 
 pub write-spec : {M : Type 1} → statement M
-write-spec = tie.close (tie.spec put-requires written-requires same-length returns)
+write-spec = tie.close (tie.spec (λ c κs. search needs) (λ c κs. search needs) (λ c. search needs) returns)

@@ -14,18 +14,12 @@ use Rattle.amounts.proofs.text.put.Statement.{statement}
 use Rattle.amounts.specs.Text.{signOf}
 use Rattle.amounts.proofs.text.put.Tie as tie
 
-size-requires : tie.Need-size-requires
-size-requires c κs = search needs
-
 div-whole : tie.Need-div-whole
 div-whole c = omega arith
 
 width-requires : tie.Need-width-requires
 width-requires c κs = let s = c .before .before in
     whole-small _ _ (s .pre .1) (omega (arith, size-read (s .fits .amount) (c .size .ensures), size-most (s .fits .amount)))
-
-sign-length-requires : tie.Need-sign-length-requires
-sign-length-requires c κs = search needs
 
 add-point : tie.Need-add-point
 add-point c = omega (arith, length-sign _ _ (c .sign-length .ensures))
@@ -53,18 +47,6 @@ returns : tie.Need-returns
 returns c = let l = length-is _ _ _ _ _ _ (measured (c .before)) in
     (l, omega (arith, length-sign _ _ (c .before .sign-length .ensures)), kept _ _ (omega arith))
 
-put-sign-requires : tie.Need-put-sign-requires
-put-sign-requires c κs = search needs
-
-put-digits-requires : tie.Need-put-digits-requires
-put-digits-requires c κs = search needs
-
-slice-write-buffer : tie.Need-slice-write-buffer
-slice-write-buffer c = search needs
-
-add-put-digits : tie.Need-add-put-digits
-add-put-digits c = search needs
-
 put-digits-requires-2 : tie.Need-put-digits-requires-2
 put-digits-requires-2 c κs = omega (arith, length-set (c .before .before .before .put-digits .last .0) (c .before .before .before .before .before .before .before .before .before .before .sign-length .result + c .before .before .before .before .before .before .before .before .before .before .before .width .result) 46)
 
@@ -85,19 +67,4 @@ returns-2 c = let m = measured (c .before .before .before .before .before .befor
 pub put-spec : {M : Type 1} → statement M
 put-spec =
     tie.close
-    (tie.spec
-    size-requires
-    div-whole
-    width-requires
-    sign-length-requires
-    add-point
-    add-length
-    add-length-2
-    returns
-    put-sign-requires
-    put-digits-requires
-    slice-write-buffer
-    add-put-digits
-    put-digits-requires-2
-    same-length
-    returns-2)
+    (tie.spec (λ c κs. search needs) div-whole width-requires (λ c κs. search needs) add-point add-length add-length-2 returns (λ c κs. search needs) (λ c κs. search needs) (λ c. search needs) (λ c. search needs) put-digits-requires-2 same-length returns-2)

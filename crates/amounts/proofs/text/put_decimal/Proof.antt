@@ -6,15 +6,6 @@ use Rattle.amounts.proofs.Widths.{width-most}
 use Rattle.amounts.proofs.text.put_decimal.Statement.{statement}
 use Rattle.amounts.proofs.text.put_decimal.Tie as tie
 
-width-requires : tie.Need-width-requires
-width-requires c κs = search needs
-
-put-digits-requires : tie.Need-put-digits-requires
-put-digits-requires c κs = search needs
-
-same-length : tie.Need-same-length
-same-length c = search needs
-
 returns : tie.Need-returns
 returns c =
     let w = c .before .before .before .before .before .width .ensures .0 in
@@ -32,4 +23,4 @@ returns-2 c =
 
 pub put-decimal-spec : {M : Type 1} → statement M
 put-decimal-spec =
-    tie.close (tie.spec width-requires put-digits-requires same-length returns returns-2)
+    tie.close (tie.spec (λ c κs. search needs) (λ c κs. search needs) (λ c. search needs) returns returns-2)

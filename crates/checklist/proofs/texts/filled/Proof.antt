@@ -10,8 +10,5 @@ use Rattle.checklist.proofs.texts.filled.Tie as tie
 returns : tie.Need-returns
 returns c = counts _ _ (omega arith)
 
-returns-2 : tie.Need-returns-2
-returns-2 c = search needs
-
 pub filled-spec : {M : Type 1} → statement M
-filled-spec = tie.close (tie.spec returns returns-2)
+filled-spec = tie.close (tie.spec returns (λ c. search needs))

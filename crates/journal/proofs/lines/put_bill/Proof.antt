@@ -6,18 +6,6 @@ use Rattle.journal.specs.Lines.{answerText}
 use Rattle.journal.proofs.lines.put_bill.Statement.{statement}
 use Rattle.journal.proofs.lines.put_bill.Tie as tie
 
-slice-aggregate-put-word : tie.Need-slice-aggregate-put-word
-slice-aggregate-put-word c = search needs
-
-put-word-requires : tie.Need-put-word-requires
-put-word-requires c κs = search needs
-
-put-cents-requires : tie.Need-put-cents-requires
-put-cents-requires c κs = search needs
-
-same-length : tie.Need-same-length
-same-length c = search needs
-
 returns : tie.Need-returns
 unfolding answerText
 returns c =
@@ -28,4 +16,4 @@ returns c =
 pub put-bill-spec : {M : Type 1} → statement M
 put-bill-spec =
     tie.close
-    (tie.spec slice-aggregate-put-word put-word-requires put-cents-requires same-length returns)
+    (tie.spec (λ c. search needs) (λ c κs. search needs) (λ c κs. search needs) (λ c. search needs) returns)

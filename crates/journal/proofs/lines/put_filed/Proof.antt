@@ -6,18 +6,6 @@ use Rattle.journal.specs.Lines.{answerText}
 use Rattle.journal.proofs.lines.put_filed.Statement.{statement}
 use Rattle.journal.proofs.lines.put_filed.Tie as tie
 
-slice-aggregate-put-word : tie.Need-slice-aggregate-put-word
-slice-aggregate-put-word c = search needs
-
-put-word-requires : tie.Need-put-word-requires
-put-word-requires c κs = search needs
-
-put-points-requires : tie.Need-put-points-requires
-put-points-requires c κs = search needs
-
-same-length : tie.Need-same-length
-same-length c = search needs
-
 returns : tie.Need-returns
 unfolding answerText
 returns c =
@@ -28,4 +16,4 @@ returns c =
 pub put-filed-spec : {M : Type 1} → statement M
 put-filed-spec =
     tie.close
-    (tie.spec slice-aggregate-put-word put-word-requires put-points-requires same-length returns)
+    (tie.spec (λ c. search needs) (λ c κs. search needs) (λ c κs. search needs) (λ c. search needs) returns)

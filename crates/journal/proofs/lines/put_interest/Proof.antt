@@ -6,27 +6,6 @@ use Rattle.journal.specs.Lines.{answerText}
 use Rattle.journal.proofs.lines.put_interest.Statement.{statement}
 use Rattle.journal.proofs.lines.put_interest.Tie as tie
 
-slice-aggregate-put-word : tie.Need-slice-aggregate-put-word
-slice-aggregate-put-word c = search needs
-
-put-word-requires : tie.Need-put-word-requires
-put-word-requires c κs = search needs
-
-put-cents-requires : tie.Need-put-cents-requires
-put-cents-requires c κs = search needs
-
-slice-aggregate-put-word-2 : tie.Need-slice-aggregate-put-word-2
-slice-aggregate-put-word-2 c = search needs
-
-put-word-requires-2 : tie.Need-put-word-requires-2
-put-word-requires-2 c κs = search needs
-
-put-cents-requires-2 : tie.Need-put-cents-requires-2
-put-cents-requires-2 c κs = search needs
-
-same-length : tie.Need-same-length
-same-length c = search needs
-
 returns : tie.Need-returns
 unfolding answerText
 returns c =
@@ -39,12 +18,4 @@ returns c =
 pub put-interest-spec : {M : Type 1} → statement M
 put-interest-spec =
     tie.close
-    (tie.spec
-    slice-aggregate-put-word
-    put-word-requires
-    put-cents-requires
-    slice-aggregate-put-word-2
-    put-word-requires-2
-    put-cents-requires-2
-    same-length
-    returns)
+    (tie.spec (λ c. search needs) (λ c κs. search needs) (λ c κs. search needs) (λ c. search needs) (λ c κs. search needs) (λ c κs. search needs) (λ c. search needs) returns)

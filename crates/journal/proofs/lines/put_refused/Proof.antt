@@ -6,18 +6,6 @@ use Rattle.journal.specs.Lines.{openingRefused}
 use Rattle.journal.proofs.lines.put_refused.Statement.{statement}
 use Rattle.journal.proofs.lines.put_refused.Tie as tie
 
-put-refusal-requires : tie.Need-put-refusal-requires
-put-refusal-requires c κs = search needs
-
-slice-aggregate-put-word : tie.Need-slice-aggregate-put-word
-slice-aggregate-put-word c = search needs
-
-put-word-requires : tie.Need-put-word-requires
-put-word-requires c κs = search needs
-
-same-length : tie.Need-same-length
-same-length c = search needs
-
 returns : tie.Need-returns
 unfolding openingRefused
 returns c =
@@ -28,4 +16,4 @@ returns c =
 pub put-refused-spec : {M : Type 1} → statement M
 put-refused-spec =
     tie.close
-    (tie.spec put-refusal-requires slice-aggregate-put-word put-word-requires same-length returns)
+    (tie.spec (λ c κs. search needs) (λ c. search needs) (λ c κs. search needs) (λ c. search needs) returns)

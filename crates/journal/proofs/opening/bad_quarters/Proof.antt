@@ -12,16 +12,10 @@ returns : tie.Need-returns
 unfolding badQuarters
 returns c = simp (lt-ltb _ _ (c .if1 .taken))
 
-quarters-in-requires : tie.Need-quarters-in-requires
-quarters-in-requires c κs = search needs
-
-quarters-in-limits-requires : tie.Need-quarters-in-limits-requires
-quarters-in-limits-requires c κs = search needs
-
 returns-2 : tie.Need-returns-2
 unfolding badQuarters
 returns-2 c = simp (le-ltb _ _ (c .before .before .if1 .left)) (ap not (c .quarters-in-limits .ensures ∙ ap quartersInLimits (c .before .quarters-in .ensures)))
 
 pub bad-quarters-spec : {M : Type 1} → statement M
 bad-quarters-spec =
-    tie.close (tie.spec returns quarters-in-requires quarters-in-limits-requires returns-2)
+    tie.close (tie.spec returns (λ c κs. search needs) (λ c κs. search needs) returns-2)

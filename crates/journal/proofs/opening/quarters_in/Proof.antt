@@ -17,18 +17,6 @@ use Rattle.journal.proofs.opening.quarters_in.Statement.{statement}
 use Rattle.journal.specs.Journal.{quartersIn}
 use Rattle.journal.proofs.opening.quarters_in.Tie as tie
 
-read-field-requires : tie.Need-read-field-requires
-read-field-requires c κs = search needs
-
-read-field-requires-2 : tie.Need-read-field-requires-2
-read-field-requires-2 c κs = search needs
-
-read-field-requires-3 : tie.Need-read-field-requires-3
-read-field-requires-3 c κs = search needs
-
-read-field-requires-4 : tie.Need-read-field-requires-4
-read-field-requires-4 c κs = search needs
-
 -- the field at a place that has 8 bytes behind it
 whole : (bytes : List ℕ) (at : ℕ) → at + 8 ≤ length bytes → fieldOr0 (drop at bytes) ≡ fieldOf (drop at bytes)
 unfolding fieldOr0
@@ -48,4 +36,4 @@ returns c =
 pub quarters-in-spec : {M : Type 1} → statement M
 quarters-in-spec =
     tie.close
-    (tie.spec read-field-requires read-field-requires-2 read-field-requires-3 read-field-requires-4 returns)
+    (tie.spec (λ c κs. search needs) (λ c κs. search needs) (λ c κs. search needs) (λ c κs. search needs) returns)

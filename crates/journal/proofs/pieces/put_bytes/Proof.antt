@@ -11,12 +11,6 @@ use Rattle.amounts.proofs.Texts.{kept, stored}
 use Rattle.journal.proofs.pieces.put_bytes.Statement.{statement}
 use Rattle.journal.proofs.pieces.put_bytes.Tie as tie
 
-copy-requires : tie.Need-copy-requires
-copy-requires c κs = search needs
-
-same-length : tie.Need-same-length
-same-length c = search needs
-
 returns : tie.Need-returns
 returns c =
     let s = c .before .before .before .before .before .before .before .args in
@@ -29,4 +23,4 @@ returns-2 : tie.Need-returns-2
 returns-2 c = (refl, kept _ _ (search needs))
 
 pub put-bytes-spec : {M : Type 1} → statement M
-put-bytes-spec = tie.close (tie.spec copy-requires same-length returns returns-2)
+put-bytes-spec = tie.close (tie.spec (λ c κs. search needs) (λ c. search needs) returns returns-2)

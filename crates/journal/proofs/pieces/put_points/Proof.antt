@@ -7,26 +7,8 @@ use Rattle.journal.proofs.Storing.{part-puts}
 use Rattle.journal.proofs.pieces.put_points.Statement.{statement}
 use Rattle.journal.proofs.pieces.put_points.Tie as tie
 
-part-at-requires : tie.Need-part-at-requires
-part-at-requires c κs = search needs
-
-sub-put : tie.Need-sub-put
-sub-put c = search needs
-
-part-put-start : tie.Need-part-put-start
-part-put-start c = search needs
-
-part-put-end : tie.Need-part-put-end
-part-put-end c = search needs
-
-put-requires : tie.Need-put-requires
-put-requires c κs = search needs
-
 add-result : tie.Need-add-result
 add-result c = omega (arith, c .before .before .put .ensures .1)
-
-same-length : tie.Need-same-length
-same-length c = search needs
 
 returns : tie.Need-returns
 returns c = let s = c .before .before .before .before .before .before .args in
@@ -35,4 +17,4 @@ returns c = let s = c .before .before .before .before .before .before .args in
 pub put-points-spec : {M : Type 1} → statement M
 put-points-spec =
     tie.close
-    (tie.spec part-at-requires sub-put part-put-start part-put-end put-requires add-result same-length returns)
+    (tie.spec (λ c κs. search needs) (λ c. search needs) (λ c. search needs) (λ c. search needs) (λ c κs. search needs) add-result (λ c. search needs) returns)

@@ -21,9 +21,6 @@ abbrev μ-loop : tie.MeasureT-loop
 loop-holds : tie.Need-loop-holds Inv-loop μ-loop
 loop-holds c = begun _ _ _ _ _ _ _ (omega arith) (c .before .before .pre .0)
 
-read-record-requires : tie.Need-read-record-requires Inv-loop μ-loop
-read-record-requires c κs = tt
-
 put-line-requires : tie.Need-put-line-requires Inv-loop μ-loop
 put-line-requires c κs = let k = c .before .before .before .before .before .loop .inv in
     omega (arith, k .few, k .within)
@@ -38,9 +35,6 @@ returns c = let p = c .before .before .put-line .ensures in
       stopped _ _ _ _ k (c .before .before .before .before .before .before .read-record .result) (c .before .before .before .before .before .before .read-record .ensures) (c .before .before .before .before .before .before .before .loop-test .taken) _ _ (c .before .before .before .before .if1 .taken) (p .0),
       omega (arith, p .1, k .few, k .within),
     )
-
-post-requires : tie.Need-post-requires Inv-loop μ-loop
-post-requires c κs = tt
 
 put-line-requires-2 : tie.Need-put-line-requires-2 Inv-loop μ-loop
 put-line-requires-2 c κs = let k = c .before .before .before .before .before .before .before .loop .inv in
@@ -71,4 +65,4 @@ returns-2 c = let k = c .before .loop .inv in
 pub run-spec : {M : Type 1} → statement M
 run-spec =
     tie.close
-    (tie.spec Inv-loop μ-loop loop-holds read-record-requires put-line-requires same-length returns post-requires put-line-requires-2 add-number loop-less loop-again same-length-2 returns-2)
+    (tie.spec Inv-loop μ-loop loop-holds (λ c κs. tt) put-line-requires same-length returns (λ c κs. tt) put-line-requires-2 add-number loop-less loop-again same-length-2 returns-2)
