@@ -20,9 +20,9 @@ use Rattle.electric_rules.specs.Limits.{kwhInLimits, remainderInLimits, levelIn
 use Rattle.electric_rules.specs.Refusals.{nothingSold, postOf}
 use Rattle.records.specs.Fields.{twosComplement, fieldOf}
 use Rattle.records.specs.Records.{recordLength, fieldsAt, zeroPresent, readOf}
-use Rattle.journal.specs.Lines as lines
 use Rattle.journal.specs.Journal.{linesFrom, electricLines, badOpening, journalOf}
 use Rattle.journal.specs.Examples.{ExampleHolds}
+use Rattle.journal.specs.Lines as lines
 
 pub example-holds : ExampleHolds
 unfolding journalOf badOpening electricLines linesFrom lines.lineOf lines.answerText readOf byTable refusalBy unknownKind kindOf fieldsOf standsBeyond strayNumber outOfRange recordLength ones onesIn bitsFrom fieldsAt zeroPresent fieldOf twosComplement value openedOf postOf nothingSold inLimits levelInLimits periodInLimits datesInLimits kwhInLimits remainderInLimits runInLimits centsInLimits pointsInLimits monthInLimits forbidden settles inRange nextAt answerAt costPosted billPosted lineAnswer billedLevel levelLine lineOf partOf round nearestOf roundedOf tieOf centsText textOf signOf decimal widthOf widthIn digits

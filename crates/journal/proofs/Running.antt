@@ -3,7 +3,7 @@ use mathlib.Core.Path.{_≡_, refl, sym, ap, subst, _∙_}
 use mathlib.Core.List.{List, [], _++_, append-assoc, append-nil}
 use Prim.Native.Nat.{ℕ, zero, suc, _+_, _*_, _<_, _≤_}
 use native.Mathlib.Omega.{arith}
-use lib.Dec.{leb, eqb}
+use lib.Dec.{eqb}
 use lib.ListN.{length}
 use borrow.Author.Tests.{le-leb, lt-leb, eq-eqb, ne-eqb}
 use Rattle.postings.specs.declared.Book.{Book}
@@ -12,10 +12,10 @@ use Rattle.postings.specs.declared.Answer.{Answer}
 use Rattle.postings.specs.declared.Answer.the-variants.{Refused}
 use Rattle.records.specs.declared.Read.{Read}
 use Rattle.records.specs.Records.{readOf, found-on}
+use Rattle.journal.proofs.Storing.{puts-then, puts-same}
 use Rattle.journal.specs.Lines.{lineOf}
 use Rattle.journal.specs.Journal.{linesFrom}
 use Rattle.journal.specs.Steps.{Puts}
-use Rattle.journal.proofs.Storing.{puts-then, puts-same}
 
 -- a record that was read has two bytes at least, and all its bytes remain
 pub read-on : (kinds : Book) (bytes : List ℕ) (place : ℕ) (r : Read) → r ≡ readOf kinds bytes place → r .number ≡ 0 → (place + 2 ≤ r .place) × (r .place ≤ length bytes)

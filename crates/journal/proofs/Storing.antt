@@ -11,8 +11,8 @@ use Rattle.refusals.specs.Laws.{row-passed, row-holds}
 use Rattle.refusals.specs.Stores.{sets-append, sets-front}
 use Rattle.refusals.specs.Writer.{wrote, refused}
 use Rattle.amounts.specs.Text.{textWritten, textLeft}
-use Rattle.amounts.proofs.Texts as texts
 use Rattle.journal.specs.Steps.{Puts}
+use Rattle.amounts.proofs.Texts as texts
 
 -- a text that was put into the part from `start` on, which is from `used` on where that is within the buffer
 module _ (l text part : List ℕ) (used start n : ℕ) where

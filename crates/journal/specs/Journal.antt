@@ -11,17 +11,17 @@ use Rattle.postings.specs.declared.Posting.{Posting}
 use Rattle.postings.specs.declared.Answer.{Answer}
 use Rattle.postings.specs.declared.Answer.the-variants.{Refused}
 use Rattle.electric_rules.specs.declared.ElectricBook.{ElectricBook}
-use Rattle.electric_rules.specs.Book as electric
-use Rattle.electric_rules.specs.Claim as electricHistory
 use Rattle.steam_rules.specs.declared.Mmbtu.{Mmbtu}
 use Rattle.steam_rules.specs.declared.SteamBook.{SteamBook}
 use Rattle.steam_rules.specs.Book.{mmbtu}
 use Rattle.steam_rules.specs.Limits.{quartersInLimits}
-use Rattle.steam_rules.specs.Opening as steam
-use Rattle.steam_rules.specs.Claim as steamHistory
 use Rattle.records.specs.Fields.{fieldOf}
 use Rattle.records.specs.Records.{readOf}
 use Rattle.journal.specs.Lines.{lineOf, openingRefused}
+use Rattle.electric_rules.specs.Book as electric
+use Rattle.electric_rules.specs.Claim as electricHistory
+use Rattle.steam_rules.specs.Opening as steam
+use Rattle.steam_rules.specs.Claim as steamHistory
 
 -- ---- the records, for either book: its kinds, and what a posting to it is answered and leaves of it
 

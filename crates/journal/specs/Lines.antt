@@ -2,10 +2,10 @@
 use mathlib.Core.List.{List, [], _∷_, _++_}
 use Prim.Native.Nat.{ℕ}
 use Prim.Native.Char.{code}
-use Prim.Native.String as text
 use Rattle.amounts.specs.Text.{decimal, centsText, pointsText}
 use Rattle.postings.specs.declared.Answer.{Answer}
 use Rattle.postings.specs.declared.Answer.the-variants.{Line, FiledLevels, Filed, Interest, Done, Refused}
+use Prim.Native.String as text
 
 -- the characters of a text, as their ASCII codes
 abbrev pub ascii : text.String → List ℕ

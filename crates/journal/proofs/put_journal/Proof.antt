@@ -4,13 +4,13 @@ use native.Mathlib.Omega.{arith}
 use lib.ListN.{length}
 use denote.Ref.{now}
 use borrow.Author.Needs.{needs}
-use Rattle.electric_rules.specs.declared.Posted as electric
-use Rattle.steam_rules.specs.declared.Posted as steam
 use Rattle.steam_rules.specs.Opening.{openedOf}
 use Rattle.journal.proofs.Storing.{puts-same}
 use Rattle.journal.proofs.Openings.{room-some, room-within, too-long, empty, bad-steam, steam-is, bad-electric, electric-is, quarters-there}
-use Rattle.journal.specs.Journal.{electricLines, steamLines}
 use Rattle.journal.proofs.put_journal.Statement.{statement}
+use Rattle.journal.specs.Journal.{electricLines, steamLines}
+use Rattle.electric_rules.specs.declared.Posted as electric
+use Rattle.steam_rules.specs.declared.Posted as steam
 use Rattle.journal.proofs.put_journal.Tie as tie
 
 returns : tie.Need-returns

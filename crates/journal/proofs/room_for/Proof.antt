@@ -1,5 +1,4 @@
 -- `journal::room_for` is room enough, which is worked out for no more bytes than an input may have. Assumes nothing.
-use mathlib.Core.Path.{sym}
 use borrow.Author.Needs.{needs}
 use borrow.Author.Tests.{lt-ltb, le-ltb}
 use Rattle.journal.proofs.room_for.Statement.{statement}

@@ -1,9 +1,8 @@
 -- `records::read_field` is the field, or 0 where too few bytes remain. Assumes nothing.
-use mathlib.Core.Path.{_≡_, sym, ap, _∙_}
-use mathlib.Core.Bool.{Bool, true, false, cond}
+use mathlib.Core.Path.{_≡_, _∙_}
+use mathlib.Core.Bool.{true, false}
 use native.Mathlib.Omega.{arith}
 use lib.Dec.{ltb}
-use lib.IntN.{pos}
 use lib.ListN.{length, drop, length-drop}
 use mir.Syntax.{w64}
 use denote.Ref.{now}
@@ -11,7 +10,7 @@ use borrow.Author.Needs.{needs}
 use borrow.Author.Tests.{lt-ltb, le-ltb}
 use Rattle.ints.specs.Machine.{reads}
 use Rattle.records.proofs.read_field.Statement.{statement}
-use Rattle.records.specs.Fields.{fieldOf, fieldOr0}
+use Rattle.records.specs.Fields.{fieldOr0}
 use Rattle.records.proofs.read_field.Tie as tie
 
 returns : tie.Need-returns

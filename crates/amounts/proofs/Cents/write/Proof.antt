@@ -1,9 +1,8 @@
 -- `amounts::Cents::write` writes the text of cents. Assumes nothing.
-use mathlib.Core.Path.{_∙_, sym}
+use mathlib.Core.Path.{_∙_}
 use borrow.Author.Needs.{needs}
 use Rattle.amounts.proofs.Texts.{answered}
 use Rattle.amounts.proofs.Cents.write.Statement.{statement}
-use Rattle.amounts.specs.Text.{centsText}
 use Rattle.amounts.proofs.Cents.write.Tie as tie
 
 returns : tie.Need-returns

@@ -1,9 +1,8 @@
 -- `amounts::Points::write` writes the text of points. Assumes nothing.
-use mathlib.Core.Path.{_∙_, sym}
+use mathlib.Core.Path.{_∙_}
 use borrow.Author.Needs.{needs}
 use Rattle.amounts.proofs.Texts.{answered}
 use Rattle.amounts.proofs.Points.write.Statement.{statement}
-use Rattle.amounts.specs.Text.{pointsText}
 use Rattle.amounts.proofs.Points.write.Tie as tie
 
 returns : tie.Need-returns

@@ -3,8 +3,8 @@ use mathlib.Core.Path.{sym, ap}
 use native.Mathlib.Omega.{arith}
 use borrow.Author.Needs.{needs}
 use Rattle.journal.proofs.Storing.{puts-same}
-use Rattle.journal.specs.Lines.{answerText}
 use Rattle.journal.proofs.lines.put_answer.Statement.{statement}
+use Rattle.journal.specs.Lines.{answerText}
 use Rattle.journal.proofs.lines.put_answer.Tie as tie
 
 returns : tie.Need-returns

@@ -2,8 +2,8 @@
 use native.Mathlib.Omega.{arith}
 use borrow.Author.Needs.{needs}
 use Rattle.journal.proofs.Storing.{puts-then}
-use Rattle.journal.specs.Lines.{answerText}
 use Rattle.journal.proofs.lines.put_filed_levels.Statement.{statement}
+use Rattle.journal.specs.Lines.{answerText}
 use Rattle.journal.proofs.lines.put_filed_levels.Tie as tie
 
 returns : tie.Need-returns

@@ -1,7 +1,6 @@
 -- `journal::pieces::put_bytes` copies the word where it fits. Assumes nothing.
-use mathlib.Core.Path.{_≡_, refl, sym, ap, _∙_}
-use mathlib.Core.List.{List, _++_}
-use native.Mathlib.Omega.{arith}
+use mathlib.Core.Path.{refl, sym, ap, _∙_}
+use mathlib.Core.List.{_++_}
 use lib.ListN.{length, drop}
 use lib.Seq.{take-length}
 use denote.Ref.{now}
