@@ -106,7 +106,7 @@ fn post_month_end(book: ElectricBook, posting: Posting) -> Posted
 {
     let secondary = electric_levels::interest(book.secondary, posting);
     let primary = electric_levels::interest(book.primary, posting);
-    let run = electric_limits::calendar::entering(book.month);
+    let run = electric_refusals::calendar::entering(book.month);
     let mut next = book;
     next.month = riders::months::month_after(book.month);
     next.settled = false;

@@ -27,7 +27,7 @@ pub fn post(book: ElectricBook, posting: Posting) -> Posted
         return refuse(book, number);
     }
     let posted = effects::effect(book, posting);
-    if !electric_limits::in_limits(posted.book) {
+    if !electric_refusals::limits::in_limits(posted.book) {
         return refuse(book, 12);
     }
     posted

@@ -1,4 +1,4 @@
-// The refusal table of the electric book, up to the rows that look at the next book.
+// The refusal table of the electric book, up to the rows that look at the next book, with the limits and the calendar that it asks for.
 use electric_rules::ElectricBook;
 use postings::Book;
 use postings::Posting;
@@ -8,6 +8,9 @@ ghost use Rattle.refusals.specs.Rows.{refusalBy};
 ghost use Rattle.postings.specs.Kinds.{kindOf};
 ghost use Rattle.electric_rules.specs.Limits.{inLimits};
 ghost use Rattle.electric_rules.specs.Refusals.{nothingSold, rowsBefore};
+
+pub mod calendar;
+pub mod limits;
 
 // Refusal 10: a settlement of no sales.
 fn sold_nothing(book: ElectricBook, posting: Posting) -> bool
@@ -30,17 +33,13 @@ pub fn refusal_before(book: ElectricBook, posting: Posting) -> u8
     if postings::stray_number(Book::Electric, posting) {
         return 3;
     }
-    if !electric_limits::in_limits(book) {
+    if !limits::in_limits(book) {
         return 6;
     }
     if postings::out_of_range(Book::Electric, posting) {
         return 7;
     }
-    if riders::months::is_forbidden(
-        posting,
-        electric_limits::calendar::settles(book.month),
-        book.settled,
-    ) {
+    if riders::months::is_forbidden(posting, calendar::settles(book.month), book.settled) {
         return 8;
     }
     if sold_nothing(book, posting) {

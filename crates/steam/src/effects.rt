@@ -104,7 +104,7 @@ fn post_month_end(book: SteamBook, posting: Posting) -> Posted
     requires { ⌜ BookWithin book ⌝ }
     ensures { λ r. ⌜ r ≡ effectAt monthEnd book posting ⌝ }
 {
-    let run = steam_limits::calendar::entering(book.month);
+    let run = steam_refusals::calendar::entering(book.month);
     let mut next = steam_runs::month_ends::reconciled(steam_runs::month_ends::entered(run, book));
     next.month = riders::months::month_after(book.month);
     next.settled = false;

@@ -27,7 +27,7 @@ pub fn post(book: SteamBook, posting: Posting) -> Posted
         return refuse(book, number);
     }
     let posted = effects::effect(book, posting);
-    if !steam_limits::in_limits(posted.book) {
+    if !steam_refusals::limits::in_limits(posted.book) {
         return refuse(book, 12);
     }
     posted

@@ -1,4 +1,4 @@
-// The refusal table of the steam book, up to the rows that look at the next book.
+// The refusal table of the steam book, up to the rows that look at the next book, with the limits and the calendar that it asks for.
 use postings::Book;
 use postings::Posting;
 use steam_rules::Mmbtu;
@@ -10,6 +10,9 @@ ghost use Rattle.postings.specs.Kinds.{kindOf};
 ghost use Rattle.postings.specs.Ranged.{Ranged};
 ghost use Rattle.steam_rules.specs.Limits.{inLimits};
 ghost use Rattle.steam_rules.specs.Refusals.{stillRuns, nothingSold, tooSmall, rowsBefore};
+
+pub mod calendar;
+pub mod limits;
 
 // Refusal 9: a reconciliation while one runs.
 fn still_runs(book: SteamBook, posting: Posting) -> bool
@@ -61,17 +64,13 @@ pub fn refusal_before(book: SteamBook, posting: Posting) -> u8
     if postings::stray_number(Book::Steam, posting) {
         return 3;
     }
-    if !steam_limits::in_limits(book) {
+    if !limits::in_limits(book) {
         return 6;
     }
     if postings::out_of_range(Book::Steam, posting) {
         return 7;
     }
-    if riders::months::is_forbidden(
-        posting,
-        steam_limits::calendar::settles(book.month),
-        book.settled,
-    ) {
+    if riders::months::is_forbidden(posting, calendar::settles(book.month), book.settled) {
         return 8;
     }
     if still_runs(book, posting) {
