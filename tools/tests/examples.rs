@@ -162,3 +162,27 @@ fn the_proved_program_is_run_on_these_examples() {
         .map(|name| format!("{name}.journal"));
     assert_eq!(named, all.collect());
 }
+
+/// The README shows a year with each answer beside its line.
+#[test]
+fn the_readme_shows_the_year() {
+    let readme = fs::read_to_string(folder().join("../README.md")).unwrap();
+    let from = readme
+        .find("    electric L&P\n")
+        .expect("the year is shown");
+    let block: Vec<&str> = readme[from..]
+        .lines()
+        .map_while(|line| line.strip_prefix("    "))
+        .collect();
+    let shown = block.iter().filter(|line| !line.starts_with('#'));
+    let (mut lines, mut answers) = (String::new(), String::new());
+    for line in shown {
+        let (line, answer) = line.split_once("  ").unwrap_or((line, ""));
+        lines += &format!("{line}\n");
+        if !answer.is_empty() {
+            answers += &format!("{}\n", answer.trim_start());
+        }
+    }
+    assert_eq!(to_bytes(&lines).unwrap(), bytes("electric-year", "journal"));
+    assert_eq!(answers, text("electric-year", "printed"));
+}
