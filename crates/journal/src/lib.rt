@@ -29,7 +29,8 @@ fn room_for(bytes: usize) -> usize
     }
 }
 
-// Prints the journal into the buffer if it has room for all of it, and answers its length in either case.
+// Prints the journal into the buffer if it has room for all of it, and answers its length in either case. A buffer without that room may
+// hold some of the lines.
 fn put_journal(input: &[u8], buffer: &mut [u8]) -> usize
     ensures { λ r. ⌜ Puts (journalOf (now (input .entry))) 0 (now (buffer .entry)) r (now (buffer .exit)) × (r ≤ roomOf (length (now (input .entry)))) ⌝ }
 {
@@ -58,8 +59,9 @@ fn put_journal(input: &[u8], buffer: &mut [u8]) -> usize
 pub fn length(input: &[u8]) -> usize
     ensures { λ r. ⌜ (r ≡ length (journalOf (now (input .entry)))) × (r ≤ roomOf (length (now (input .entry)))) ⌝ }
 {
-    let mut none = [0; 1];
-    put_journal(input, &mut none)
+    // No line fits one byte, so the lines are only counted.
+    let mut byte = [0; 1];
+    put_journal(input, &mut byte)
 }
 
 // Writes the journal of the input into the buffer: how many bytes, or refusal 13 with the buffer as it was. Its length is counted first

@@ -4,8 +4,10 @@ use amounts::Cents;
 use amounts::Points;
 use postings::Answer;
 ghost use mathlib.Core.Path.{_≡_};
+ghost use mathlib.Core.List.{_++_};
 ghost use Prim.Native.Nat.{_+_, _^_, _≤_};
-ghost use Rattle.journal.specs.Lines.{answerText, lineOf, openingRefused};
+ghost use Rattle.amounts.specs.Text.{decimal};
+ghost use Rattle.journal.specs.Lines.{ascii, answerText, lineOf, openingRefused};
 ghost use Rattle.journal.specs.Steps.{Puts};
 
 fn put_bill(buffer: &mut [u8], used: usize, cents: Cents) -> usize
@@ -68,6 +70,17 @@ fn put_answer(buffer: &mut [u8], used: usize, answer: Answer) -> usize
     }
 }
 
+// The head of a record's line: its number and its kind.
+fn put_head(buffer: &mut [u8], used: usize, number: u32, kind: u8) -> usize
+    requires { ⌜ used ≤ 2 ^ 32 ⌝ }
+    ensures { λ r. ⌜ Puts (decimal number ++ ascii " " ++ decimal kind ++ ascii " ") used (now (buffer .entry)) r (now (buffer .exit)) × (r ≤ used + 22) ⌝ }
+{
+    let blank = pieces::put_number(buffer, used, number);
+    let second = pieces::put_word(buffer, blank, b" ");
+    let parted = pieces::put_number(buffer, second, kind as u32);
+    pieces::put_word(buffer, parted, b" ")
+}
+
 // The line of a record: its number, its kind and the answer.
 pub(crate) fn put_line(
     buffer: &mut [u8],
@@ -79,10 +92,7 @@ pub(crate) fn put_line(
     requires { ⌜ used ≤ 2 ^ 32 ⌝ }
     ensures { λ r. ⌜ Puts (lineOf number kind answer) used (now (buffer .entry)) r (now (buffer .exit)) × (r ≤ used + 82) ⌝ }
 {
-    let blank = pieces::put_number(buffer, used, number);
-    let second = pieces::put_word(buffer, blank, b" ");
-    let parted = pieces::put_number(buffer, second, kind as u32);
-    let third = pieces::put_word(buffer, parted, b" ");
+    let third = put_head(buffer, used, number, kind);
     let end = put_answer(buffer, third, answer);
     pieces::put_word(buffer, end, b"\n")
 }

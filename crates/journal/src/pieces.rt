@@ -1,5 +1,5 @@
-// The pieces of a line. Each is stored into the lent buffer from a place on, if there is room for it, and answers the place behind it in either
-// case: so a run over a buffer too short for its lines counts them.
+// The pieces of a line. Each is stored into the lent buffer from a place on, if there is room for it, and answers the place behind it in
+// either case, so that a run over a buffer too short for its lines counts them.
 use amounts::Cents;
 use amounts::Points;
 ghost use mathlib.Core.Path.{_≡_};
@@ -10,7 +10,7 @@ ghost use Rattle.journal.specs.Steps.{Puts};
 
 // Where the part for a piece begins: past the end nothing is left of the buffer.
 fn part_at(used: usize, room: usize) -> usize
-    ensures { λ r. ⌜ (r ≤ room) × (used ≤ room → r ≡ used) × (room ≤ used → r ≡ room) ⌝ }
+    ensures { λ r. ⌜ (r ≤ room) × (used ≤ room → r ≡ used) ⌝ }
 {
     if used <= room { used } else { room }
 }
