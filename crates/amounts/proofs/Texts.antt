@@ -16,7 +16,7 @@ use Rattle.ints.specs.Order.{signed}
 use Rattle.refusals.specs.Rows.{row, byTable}
 use Rattle.refusals.specs.Laws.{at-row, accepted}
 use Rattle.refusals.specs.Stores.{sets-last, sets-append}
-use Rattle.refusals.specs.Writer.{wrote, refused, tooShort, writer-refuses, writer-accepts}
+use Rattle.refusals.specs.Writer.{wrote, writerRefused, tooShort, writer-refuses, writer-accepts}
 use Rattle.amounts.specs.Text.{characters, widthOf, decimal, signOf, textOf, textRows, textWritten, textLeft}
 
 pub length-characters : (count n : ℕ) → length (characters (digits 10 count n)) ≡ count
@@ -118,9 +118,9 @@ unfolding textLeft tooShort
 stored text buffer after h s = writer-accepts (textRows text buffer) text buffer after (length text) (accepted (textRows text buffer) (le-ltb (length buffer) (length text) h, tt)) h refl s .1
 
 -- a writer answers by the lengths of text and buffer alone
-pub answered : (text buffer : List ℕ) (n room : ℕ) → n ≡ length text → room ≡ length buffer → byTable (row 13 (ltb room n) ∷ []) (wrote n) refused ≡ textWritten text buffer
+pub answered : (text buffer : List ℕ) (n room : ℕ) → n ≡ length text → room ≡ length buffer → byTable (row 13 (ltb room n) ∷ []) (wrote n) writerRefused ≡ textWritten text buffer
 unfolding textWritten tooShort
-answered text buffer n room e f = λ i. byTable (row 13 (ltb (f i) (e i)) ∷ []) (wrote (e i)) refused
+answered text buffer n room e f = λ i. byTable (row 13 (ltb (f i) (e i)) ∷ []) (wrote (e i)) writerRefused
 
 -- ---- a whole number
 

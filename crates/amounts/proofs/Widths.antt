@@ -6,15 +6,14 @@ use native.Mathlib.Omega.{arith}
 use native.Mathlib.Nat.{pow-suc, pow-le-pow-right, one-le-pow, div-div-eq-div-mul, le-div-iff-mul-le, div-lt-iff-lt-mul, mul-div-cancel}
 use lib.Dec.{leb, ltb, lit<}
 use borrow.Author.Tests.{lt-ltb, le-ltb, ltb-true, ltb-false, leb-true, leb-false}
-use Rattle.amounts.specs.Text.{widthIn, widthOf}
+use Rattle.amounts.specs.Text.{widthIn, widthOf, EnoughRoom}
 
--- once there is room for n, more room changes nothing
-room : (a b n : ℕ) → n ≤ a → n ≤ b → widthIn a n ≡ widthIn b n
+pub enough-room : EnoughRoom
 unfolding widthIn
-room zero zero n h k = refl
-room zero (suc b) n h k = sym (ap (λ (t : Bool). cond t 1 (suc (widthIn b (n / 10)))) (lt-ltb n 10 (omega arith)))
-room (suc a) zero n h k = ap (λ (t : Bool). cond t 1 (suc (widthIn a (n / 10)))) (lt-ltb n 10 (omega arith))
-room (suc a) (suc b) n h k = ap (λ (w : ℕ). cond (ltb n 10) 1 (suc w)) (room a b (n / 10) (omega arith) (omega arith))
+enough-room zero zero n h k = refl
+enough-room zero (suc b) n h k = sym (ap (λ (t : Bool). cond t 1 (suc (widthIn b (n / 10)))) (lt-ltb n 10 (omega arith)))
+enough-room (suc a) zero n h k = ap (λ (t : Bool). cond t 1 (suc (widthIn a (n / 10)))) (lt-ltb n 10 (omega arith))
+enough-room (suc a) (suc b) n h k = ap (λ (w : ℕ). cond (ltb n 10) 1 (suc w)) (enough-room a b (n / 10) (omega arith) (omega arith))
 
 one-digit : (n : ℕ) → n < 10 → widthOf n ≡ 1
 unfolding widthOf widthIn
@@ -26,7 +25,7 @@ unfolding widthOf widthIn
 more-digits zero h = absurd (omega arith)
 more-digits (suc n) h =
     ap (λ (t : Bool). cond t 1 (suc (widthIn n (suc n / 10)))) (le-ltb (suc n) 10 h)
-    ∙ ap suc (room n (suc n / 10) (suc n / 10) (omega arith) (omega arith))
+    ∙ ap suc (enough-room n (suc n / 10) (suc n / 10) (omega arith) (omega arith))
 
 -- so many digits are counted, and 10 to their number is the power: the rest of n has the rest of its digits
 pub record Counted (n width power : ℕ) : Type 0 where

@@ -1,4 +1,5 @@
 -- Amounts as text (01, Text): characters are their ASCII codes.
+use mathlib.Core.Path.{_≡_}
 use mathlib.Core.Bool.{cond}
 use mathlib.Core.List.{List, [], _∷_, _++_, map}
 use Prim.Native.Nat.{ℕ, zero, suc, _+_, _/_, _^_, _≤_}
@@ -11,7 +12,7 @@ use borrow.Author.Tests.{ltb-false}
 use Rattle.ints.specs.Digits.{digits}
 use Rattle.refusals.specs.Rows.{Row, row}
 use Rattle.refusals.specs.Laws.{by-table}
-use Rattle.refusals.specs.Writer.{wrote, refused, tooShort, writtenBy, leftBy}
+use Rattle.refusals.specs.Writer.{wrote, writerRefused, tooShort, writtenBy, bufferLeft}
 use Rattle.refusals.specs.declared.Written.{Written}
 use Rattle.amounts.specs.declared.Cents.{Cents}
 use Rattle.amounts.specs.declared.Points.{Points}
@@ -29,6 +30,10 @@ widthIn (suc more) n = cond (ltb n 10) 1 (suc (widthIn more (n / 10)))
 unfoldable pub widthOf : ℕ → ℕ
 unfolding widthIn
 widthOf n = widthIn n n
+
+-- more room changes nothing: any two counts that are room enough give one width. Proved in proofs/Widths.antt.
+abbrev pub EnoughRoom : Type 0
+EnoughRoom = (a b n : ℕ) → n ≤ a → n ≤ b → widthIn a n ≡ widthIn b n
 
 -- a whole number without leading zeros
 unfoldable pub decimal : ℕ → List ℕ
@@ -59,11 +64,11 @@ unfoldable pub textWritten : List ℕ → List ℕ → Written
 textWritten text buffer = writtenBy (textRows text buffer) text
 
 unfoldable pub textLeft : List ℕ → List ℕ → List ℕ
-textLeft text buffer = leftBy (textRows text buffer) text buffer
+textLeft text buffer = bufferLeft (textRows text buffer) text buffer
 
 -- no more was written than the buffer holds
 pub written-within : (text buffer : List ℕ) → textWritten text buffer .length ≤ length buffer
 unfolding textWritten tooShort
 written-within text buffer =
-    by-table (λ (w : Written). w .length ≤ length buffer) (textRows text buffer) (wrote (length text)) refused tt
-    (λ none. ltb-false (length buffer) (length text) (none .0)) (λ n. omega arith)
+    by-table (λ (w : Written). w .length ≤ length buffer) (textRows text buffer) (wrote (length text)) writerRefused tt
+    (λ none. ltb-false (length buffer) (length text) (none .0)) (λ n refuses. omega arith)

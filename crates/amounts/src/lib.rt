@@ -49,6 +49,9 @@ impl Points {
 
     pub const MOST: i32 = 99_999;
 
+    // Points to a cent, since a point is $0.0001.
+    pub const TO_A_CENT: i64 = 100;
+
     // Whether a book may store the factor.
     pub fn in_limits(self) -> bool
         ensures { λ r. ⌜ r ≡ pointsInLimits self ⌝ }

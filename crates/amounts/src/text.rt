@@ -8,7 +8,7 @@ ghost use lib.ListN.{length};
 ghost use lib.Seq.{sets};
 ghost use Rattle.ints.specs.Digits.{digits};
 ghost use Rattle.refusals.specs.Rows.{row, byTable};
-ghost use Rattle.refusals.specs.Writer.{wrote, refused};
+ghost use Rattle.refusals.specs.Writer.{wrote, writerRefused};
 ghost use Rattle.amounts.specs.Text.{characters, widthOf, decimal, signOf, textOf, textLeft};
 
 // How many digits a whole number has.
@@ -79,7 +79,7 @@ pub(crate) fn put(amount: i64, places: usize, unit: u64, buffer: &mut [u8]) -> u
 
 // What the writer of a text of this length answers for a buffer of that one.
 pub(crate) fn written(length: usize, room: usize) -> Written
-    ensures { λ r. ⌜ r ≡ byTable (row 13 (ltb room length) ∷ []) (wrote length) refused ⌝ }
+    ensures { λ r. ⌜ r ≡ byTable (row 13 (ltb room length) ∷ []) (wrote length) writerRefused ⌝ }
 {
     if room < length {
         return Written {

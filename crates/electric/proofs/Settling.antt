@@ -1,6 +1,6 @@
 -- A settlement's filings make a book that is stored or refused as the rules' own is: they are the rules' filings where both factors are in
 -- limits, and where one is not, neither book is. Assumes nothing.
-use mathlib.Core.Path.{_≡_, _∙_}
+use mathlib.Core.Path.{_≡_}
 use mathlib.Core.Bool.{false}
 use lib.IntN.{ℤ}
 use Rattle.ints.specs.Flags.{and-false}
@@ -8,18 +8,18 @@ use Rattle.amounts.specs.Amounts.{points, pointsInLimits}
 use Rattle.postings.specs.Kinds.{settle}
 use Rattle.postings.specs.declared.Posting.{Posting}
 use Rattle.postings.specs.declared.Answer.the-variants.{FiledLevels}
-use Rattle.riders.specs.Runs.{narrowed-alike, run, factorFor, runInLimits, narrowed}
+use Rattle.riders.specs.Runs.{run, factorFor, runInLimits, narrowed}
+use Rattle.riders.specs.Posts.{StoredAs, stored-then, narrowed-stored}
 use Rattle.electric_rules.specs.declared.Level.{Level}
 use Rattle.electric_rules.specs.declared.ElectricBook.{ElectricBook}
 use Rattle.electric_rules.specs.declared.Posted.{Posted}
-use Rattle.electric_rules.specs.Book.{remainder, posted, refused}
+use Rattle.electric_rules.specs.Book.{remainder, posted}
 use Rattle.electric_rules.specs.Rates.{ratesOf}
 use Rattle.electric_rules.specs.Settlement.{remainderAfter, secondaryShare, primaryShare}
 use Rattle.electric_rules.specs.Levels.{owedBy, filedLevel, settledLevel}
 use Rattle.electric_rules.specs.Limits.{levelInLimits, inLimits}
 use Rattle.electric_rules.specs.Next.{settledWith, settlePosted, filedAnswer, nextAt, answerAt}
-use Rattle.electric.specs.Stored.{storedOr12, effectAt, StoredAs}
-use Rattle.riders.specs.Posts as posts
+use Rattle.electric.specs.Stored.{effectAt, fits}
 
 -- ---- a factor out of limits makes a book out of limits
 
@@ -56,11 +56,9 @@ module _ (b : ElectricBook) (p : Posting) where
       posted (FiledLevels (points f) (points g))
       (settledWith b (remainder (remainderAfter (ratesOf (b .division)) (b .period))) (filedLevel (run f owedSecondary) (b .secondary)) (filedLevel (run g owedPrimary) (b .primary)))
 
-  refused-12 : (next : Posted) → inLimits (next .book) ≡ false → storedOr12 b next ≡ refused b 12
-  refused-12 = posts.refused-12 inLimits (λ (r : Posted). r .book) refused b
-
-  pub stored-as : StoredAs b (settledAt (narrowed quotientSecondary) (narrowed quotientPrimary)) (effectAt settle b p)
+  pub stored-as : StoredAs fits (settledAt (narrowed quotientSecondary) (narrowed quotientPrimary)) (effectAt settle b p)
   unfolding nextAt answerAt settlePosted filedAnswer settledLevel
   stored-as =
-      narrowed-alike (λ f. storedOr12 b (settledAt f (narrowed quotientPrimary))) (refused b 12) (λ f e. refused-12 _ (secondary-out _ (level-out _ e))) quotientSecondary
-      ∙ narrowed-alike (λ f. storedOr12 b (settledAt quotientSecondary f)) (refused b 12) (λ f e. refused-12 _ (primary-out _ (level-out _ e))) quotientPrimary
+      stored-then fits
+      (narrowed-stored fits (λ f. settledAt f (narrowed quotientPrimary)) (λ f e. secondary-out _ (level-out _ e)) quotientSecondary)
+      (narrowed-stored fits (λ f. settledAt quotientSecondary f) (λ f e. primary-out _ (level-out _ e)) quotientPrimary)

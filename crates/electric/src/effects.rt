@@ -12,9 +12,10 @@ ghost use mathlib.Core.Path.{_≡_};
 ghost use mathlib.Core.Bool.{false};
 ghost use Rattle.postings.specs.Kinds.{cost, sales, bill, settle, monthEnd, adjust, kindOf, unknownKind};
 ghost use Rattle.postings.specs.Ranged.{Ranged};
+ghost use Rattle.riders.specs.Posts.{StoredAs};
 ghost use Rattle.electric_rules.specs.Next.{costAdded, salesAdded};
 ghost use Rattle.electric_rules.specs.Ranges.{PeriodWithin, BookWithin};
-ghost use Rattle.electric.specs.Stored.{effectAt, StoredAs};
+ghost use Rattle.electric.specs.Stored.{effectAt, fits};
 
 fn cost_added(period: Period, posting: Posting) -> Period
     requires { ⌜ PeriodWithin period × Ranged Book.Electric cost posting ⌝ }
@@ -121,7 +122,7 @@ fn post_month_end(book: ElectricBook, posting: Posting) -> Posted
 // A factor that points have no room for is filed as one out of limits, so the book is stored or refused as the rules' own would be.
 fn post_settlement(book: ElectricBook, posting: Posting) -> Posted
     requires { ⌜ BookWithin book × Ranged Book.Electric settle posting ⌝ }
-    ensures { λ r. ⌜ StoredAs book r (effectAt settle book posting) ⌝ }
+    ensures { λ r. ⌜ StoredAs fits r (effectAt settle book posting) ⌝ }
 {
     let rates = electric_settlement::rates_of(book.division);
     let shares = electric_settlement::shares_of(rates, book.period);
@@ -153,7 +154,7 @@ fn post_settlement(book: ElectricBook, posting: Posting) -> Posted
 
 pub(crate) fn effect(book: ElectricBook, posting: Posting) -> Posted
     requires { ⌜ BookWithin book × Ranged Book.Electric (kindOf (posting .kind)) posting × (unknownKind Book.Electric (posting .kind) ≡ false) ⌝ }
-    ensures { λ r. ⌜ StoredAs book r (effectAt (kindOf (posting .kind)) book posting) ⌝ }
+    ensures { λ r. ⌜ StoredAs fits r (effectAt (kindOf (posting .kind)) book posting) ⌝ }
 {
     let kind = posting.kind;
     match kind {

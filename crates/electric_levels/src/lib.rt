@@ -1,5 +1,6 @@
 // What bill, adjust and month end make of a level.
 use amounts::Cents;
+use amounts::Points;
 use electric_rules::Level;
 use postings::Book;
 use postings::Posting;
@@ -14,9 +15,6 @@ ghost use Rattle.riders.specs.Runs.{dueLess, RunWithin};
 ghost use Rattle.electric_rules.specs.Levels.{factorsOf, levelLine, billedLevel, adjustedLevel, bearingOf, interestOn, accruedLevel, handedOver};
 ghost use Rattle.electric_rules.specs.Ranges.{LevelWithin};
 
-// Points to a cent, since a point is $0.0001.
-const POINTS: i64 = 100;
-
 // Millionths of a year's rate to a month's.
 const MONTHLY: i64 = 12_000_000;
 
@@ -27,7 +25,7 @@ pub fn line(level: Level, posting: Posting) -> Cents
 {
     Cents(rounding::round_div(
         posting.second * (level.first.factor.0 as i64 + level.second.factor.0 as i64),
-        POINTS,
+        Points::TO_A_CENT,
     ))
 }
 
@@ -36,7 +34,10 @@ fn first_part(level: Level, posting: Posting) -> Cents
     requires { ⌜ LevelWithin level × Ranged Book.Electric bill posting ⌝ }
     ensures { λ r. ⌜ r ≡ cents (partOf (posting .second) (factorsOf level) 0) ⌝ }
 {
-    Cents(rounding::round_div(posting.second * (level.first.factor.0 as i64), POINTS))
+    Cents(rounding::round_div(
+        posting.second * (level.first.factor.0 as i64),
+        Points::TO_A_CENT,
+    ))
 }
 
 // Run 2's: the line less that.

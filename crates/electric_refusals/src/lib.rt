@@ -4,10 +4,10 @@ use postings::Book;
 use postings::Posting;
 ghost use mathlib.Core.Path.{_≡_};
 ghost use mathlib.Core.Bool.{true};
-ghost use Rattle.refusals.specs.Rows.{refusalBy};
+ghost use Rattle.refusals.specs.Rows.{refusalBy, before};
 ghost use Rattle.postings.specs.Kinds.{kindOf};
 ghost use Rattle.electric_rules.specs.Limits.{inLimits};
-ghost use Rattle.electric_rules.specs.Refusals.{nothingSold, rowsBefore};
+ghost use Rattle.electric_rules.specs.Refusals.{nothingSold, rowsOf};
 
 pub mod calendar;
 pub mod limits;
@@ -25,7 +25,7 @@ fn sold_nothing(book: ElectricBook, posting: Posting) -> bool
 
 // The number of the first row that holds, or 0 where none does.
 pub fn refusal_before(book: ElectricBook, posting: Posting) -> u8
-    ensures { λ r. ⌜ r ≡ refusalBy (rowsBefore book posting) ⌝ }
+    ensures { λ r. ⌜ r ≡ refusalBy (before 12 (rowsOf book posting)) ⌝ }
 {
     if postings::unknown_kind(Book::Electric, posting) {
         return 2;

@@ -1,6 +1,6 @@
 -- No cent is lost: what book and tally share is so of a fresh book, each posting keeps it, and so does a list of them; the claim follows
 -- from it. Assumes nothing.
-use mathlib.Core.Path.{_≡_, refl, sym, ap, subst}
+use mathlib.Core.Path.{_≡_, refl, sym, ap, subst, _∙_}
 use mathlib.Core.Bool.{Bool, true, false, cond, not, true≢false}
 use Prim.Native.Nat.{ℕ}
 use lib.Dec.{leb}
@@ -11,9 +11,11 @@ use Rattle.refusals.specs.Laws.{by-table}
 use Rattle.postings.specs.Kinds.{Kind, cost, sales, bill, settle, monthEnd, adjust, reconcile, unknown, kindOf, tableOf, isNone, unknownKind}
 use Rattle.postings.specs.declared.Book.the-variants.{Electric}
 use Rattle.postings.specs.declared.Posting.{Posting}
+use Rattle.postings.specs.declared.Answer.{Answer}
 use Rattle.postings.specs.declared.Answer.the-variants.{Done}
 use Rattle.riders.specs.Months.{monthInLimits, forbidden}
-use Rattle.riders.specs.Histories.{wasAccepted, lineAnswered, kept-after}
+use Rattle.riders.specs.Rules.{leftBy, answeredBy, by-rules}
+use Rattle.riders.specs.Histories.{wasAccepted, lineAnswered, entryOf, kept-after}
 use Rattle.electric_rules.proofs.Waiting.{clear, settle-clear, month-turns}
 use Rattle.electric_rules.proofs.Shares.{Shared, settled-shared}
 use Rattle.electric_rules.proofs.LevelSteps.{LevelKept, billed-keeps, adjusted-keeps, settled-keeps, ended-keeps}
@@ -30,9 +32,9 @@ use Rattle.electric_rules.specs.Settlement.{remainderAfter, secondarySha
 use Rattle.electric_rules.specs.Levels.{heldBy}
 use Rattle.electric_rules.specs.Next.{withPeriod, withLevels, isSecondary, costPosted, salesPosted, billPosted, settlePosted, monthEnded, adjustPosted, nextAt, lineAnswer, filedAnswer, interestAnswer, answerAt}
 use Rattle.electric_rules.specs.Limits.{datesInLimits, inLimits}
-use Rattle.electric_rules.specs.Refusals.{postOf}
+use Rattle.electric_rules.specs.Refusals.{rules}
 use Rattle.electric_rules.specs.Tally.{LevelTally, Tally, freshLevelTally, freshTally, withPeriodTally, withLevelTallies, costCounted, salesCounted, lineCounted, shareCounted, settleCounted, interestCounted, adjustmentCounted, countAt, countOf}
-use Rattle.electric_rules.specs.Claim.{Balances, leftBy, answeredBy, NoCentLost}
+use Rattle.electric_rules.specs.Claim.{Balances, NoCentLost}
 use Rattle.riders.specs.Waiting as waiting
 use Rattle.riders.specs.Sharing as sharing
 
@@ -53,7 +55,7 @@ record Kept (rates : Rates) (b : ElectricBook) (t : Tally) : Type 0 where
 module _ (rates : Rates) (b : ElectricBook) (t : Tally) (p : Posting) (k : Kept rates b t) where
   -- the tally takes from an answer that it was accepted, and the line
   abbrev Keeps : Kind → Type 0
-  Keeps kind = Kept rates (nextAt kind b p) (cond (wasAccepted (answerAt kind b p)) (countAt kind rates t p (lineAnswered (answerAt kind b p))) t)
+  Keeps kind = Kept rates (nextAt kind b p) (cond (wasAccepted (answerAt kind b p)) (countAt kind rates t p (lineAnswered kind (answerAt kind b p))) t)
 
   -- cost and sales change the period alone, and not its remainder
   period-keeps :
@@ -149,12 +151,12 @@ module _ (rates : Rates) (b : ElectricBook) (t : Tally) (p : Posting) (k : Kept 
 
 -- ---- a posting, accepted or refused
 
-posting-keeps : (rates : Rates) (b : ElectricBook) (t : Tally) (p : Posting) → Kept rates b t → Kept rates (leftBy b p) (countOf rates t p (answeredBy b p))
-unfolding postOf countOf unknownKind
+posting-keeps : (rates : Rates) (b : ElectricBook) (t : Tally) (p : Posting) → Kept rates b t → Kept rates (leftBy rules b p) (countOf rates t (entryOf p (answeredBy rules b p)))
+unfolding countOf unknownKind
 posting-keeps rates b t p k =
-    by-table (λ (r : Posted). Kept rates (r .book) (countOf rates t p (r .answer))) _ _ _ tt
+    by-rules rules (λ (next : ElectricBook) (answer : Answer). Kept rates next (countOf rates t (entryOf p answer))) b p tt
     (λ none. kind-keeps rates b t p k (kindOf (p .kind)) (none .0) (none .1 .1 .0) (none .1 .1 .1 .1 .0))
-    (λ n. k)
+    (λ n refused. simp refused k)
 
 -- ---- a list of postings to an opened book
 
@@ -175,7 +177,7 @@ unfolding openedOf
 opened-kept division =
     by-table (λ (r : Posted). r .answer ≡ Done → Kept (ratesOf division) (r .book) freshTally) _ (posted Done (freshOf division)) (refused (freshOf 0)) tt
     (λ none done. fresh-kept division)
-    (λ n done. absurd (true≢false (sym (ap wasAccepted done))))
+    (λ n refuses done. absurd (true≢false (sym (ap wasAccepted done) ∙ refuses)))
 
 balances : (rates : Rates) (b : ElectricBook) (t : Tally) → Kept rates b t → Balances rates b t
 balances rates b t k =
@@ -189,4 +191,4 @@ pub no-cent-lost : NoCentLost
 unfolding NoCentLost
 no-cent-lost division done postings =
     let rates = ratesOf division in
-    balances rates _ _ (kept-after leftBy answeredBy (countOf rates) (Kept rates) (posting-keeps rates) _ _ postings (opened-kept division done))
+    balances rates _ _ (kept-after rules (countOf rates) (Kept rates) (posting-keeps rates) _ _ postings (opened-kept division done))

@@ -6,7 +6,6 @@ use Prim.Native.Nat.{ℕ}
 use lib.IntN.{pos, _+ℤ_, _-ℤ_, _*ℤ_}
 use Rattle.ints.specs.Range.{Within}
 use Rattle.postings.specs.declared.Posting.{Posting}
-use Rattle.postings.specs.declared.Answer.{Answer}
 use Rattle.postings.specs.declared.Answer.the-variants.{Done}
 use Rattle.riders.specs.Histories.{bookAfter, entriesOf, tallyAfter}
 use Rattle.electric_rules.specs.declared.Rates.{Rates}
@@ -15,7 +14,7 @@ use Rattle.electric_rules.specs.declared.ElectricBook.{ElectricBook}
 use Rattle.electric_rules.specs.Book.{openedOf}
 use Rattle.electric_rules.specs.Rates.{ratesOf}
 use Rattle.electric_rules.specs.Levels.{heldBy}
-use Rattle.electric_rules.specs.Refusals.{postOf}
+use Rattle.electric_rules.specs.Refusals.{rules}
 use Rattle.electric_rules.specs.Tally.{LevelTally, Tally, freshTally, countOf}
 
 -- at a level: billed + held = shares + interest + adjustments
@@ -28,16 +27,9 @@ pub record Balances (rates : Rates) (b : ElectricBook) (t : Tally) : Type 0 wher
   pub primary : LevelBalances (b .primary) (t .primary)
   pub shares : Within 50000 (pos 100000 *ℤ (t .secondary .shares +ℤ t .primary .shares) -ℤ rates .percentage *ℤ t .variances)
 
--- the book that a posting leaves, and what it is answered
-abbrev pub leftBy : ElectricBook → Posting → ElectricBook
-leftBy b p = postOf b p .book
-
-abbrev pub answeredBy : ElectricBook → Posting → Answer
-answeredBy b p = postOf b p .answer
-
 unfoldable pub NoCentLost : Type 0
 NoCentLost =
     (division : ℕ) → openedOf division .answer ≡ Done → (postings : List Posting) →
     let rates = ratesOf division in
     let fresh = openedOf division .book in
-    Balances rates (bookAfter leftBy fresh postings) (tallyAfter (countOf rates) freshTally (entriesOf leftBy answeredBy fresh postings))
+    Balances rates (bookAfter rules fresh postings) (tallyAfter (countOf rates) freshTally (entriesOf rules fresh postings))

@@ -1,11 +1,10 @@
--- The tally of the electric book (01, The tally): fed each posting and its answer, never the book. K, Ss, Sp and rem are its own, and stand
--- in a period of its own; V, R, w and the shares follow from them by the book's formulas.
+-- The tally of the electric book (01, The tally): fed each posting, whether it was accepted and, for a bill, the line answered, never the
+-- book. K, Ss, Sp and rem are its own, and stand in a period of its own; V, R, w and the shares follow from them by the book's formulas.
 use mathlib.Core.Bool.{cond}
 use lib.IntN.{ℤ, pos, _+ℤ_, _-ℤ_}
 use Rattle.postings.specs.Kinds.{Kind, cost, sales, bill, settle, monthEnd, adjust, reconcile, unknown, kindOf}
 use Rattle.postings.specs.declared.Posting.{Posting}
-use Rattle.postings.specs.declared.Answer.{Answer}
-use Rattle.riders.specs.Histories.{wasAccepted, lineAnswered}
+use Rattle.riders.specs.Histories.{Entry}
 use Rattle.electric_rules.specs.declared.Rates.{Rates}
 use Rattle.electric_rules.specs.declared.Period.{Period}
 use Rattle.electric_rules.specs.Book.{salesOf, periodOf, noPeriod}
@@ -110,5 +109,5 @@ countAt reconcile rates t p line = t
 countAt unknown rates t p line = t
 
 -- a refused posting changes nothing
-unfoldable pub countOf : Rates → Tally → Posting → Answer → Tally
-countOf rates t p answer = cond (wasAccepted answer) (countAt (kindOf (p .kind)) rates t p (lineAnswered answer)) t
+unfoldable pub countOf : Rates → Tally → Entry → Tally
+countOf rates t e = cond (e .accepted) (countAt (kindOf (e .posting .kind)) rates t (e .posting) (e .line)) t

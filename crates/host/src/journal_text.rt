@@ -11,7 +11,7 @@ ghost use Rattle.journal.specs.Journal.{journalOf, roomOf};
 pub extern "C" fn neapscroll_journal_length(input: &[u8]) -> usize
     ensures { λ r. ⌜ (r ≡ length (journalOf (now (input .entry)))) × (r ≤ roomOf (length (now (input .entry)))) ⌝ }
 {
-    journal::length(input)
+    journal::printed_length(input)
 }
 
 // Writes the journal of the input: what the journal program prints for it.

@@ -1,15 +1,27 @@
 -- What is printed by how an input opens, and room enough for it. Assumes nothing.
 use mathlib.Core.Path.{_≡_, refl, sym, ap, _∙_}
-use mathlib.Core.Bool.{Bool, true, false, cond, _||_, true≢false}
-use mathlib.Core.List.{List}
+use mathlib.Core.Bool.{Bool, true, false, cond, not, _||_, true≢false}
+use mathlib.Core.List.{List, [], _∷_}
 use Prim.Native.Nat.{ℕ, _+_, _*_, _<_, _≤_}
 use native.Mathlib.Omega.{arith}
-use lib.Dec.{ltb}
+use lib.Dec.{eqb, ltb}
+use lib.IntN.{pos}
 use lib.ListN.{length}
 use borrow.Author.Tests.{ltb-false, lt-ltb, le-ltb, eq-eqb, ne-eqb}
-use Rattle.refusals.specs.Laws.{at-row, past-row, accepted, gives-asked, gives-refusal}
+use Rattle.refusals.specs.Rows.{row, refusalBy}
+use Rattle.refusals.specs.Laws.{at-row, past-row, accepted, gives-asked, gives-refusal, gives-number}
+use Rattle.postings.specs.Answers.{answerNumber}
+use Rattle.postings.specs.declared.Answer.the-variants.{Done}
+use Rattle.riders.specs.Histories.{wasAccepted}
+use Rattle.steam_rules.specs.declared.Mmbtu.{Mmbtu}
+use Rattle.steam_rules.specs.Book.{mmbtu, posted, refused, four, freshOf}
+use Rattle.steam_rules.specs.Limits.{quartersInLimits}
 use Rattle.journal.specs.Lines.{openingRefused}
-use Rattle.journal.specs.Journal.{journalRows, journalOf, opensSteam, badOpening, badQuarters, firstByte, steamRun, electricRun, roomOf}
+use Rattle.journal.specs.Journal.{journalRows, journalOf, opensSteam, badOpening, badQuarters, badDivision, firstByte, steamRun, electricRun, roomOf}
+use Rattle.electric_rules.specs.declared.Posted as electricPosted
+use Rattle.electric_rules.specs.Book as electric
+use Rattle.steam_rules.specs.declared.Posted as steamPosted
+use Rattle.steam_rules.specs.Opening as steam
 
 pub room-some : (n : ℕ) → 82 ≤ roomOf n
 unfolding roomOf
@@ -22,6 +34,24 @@ room-some n = go (ltb 65536 n)
 pub room-within : (n : ℕ) → n ≤ 65536 → roomOf n ≡ 41 * n + 82
 unfolding roomOf
 room-within n h = simp (le-ltb 65536 n h)
+
+-- ---- which openings a book refuses
+
+by-row : (t : Bool) → not (eqb (cond t 7 0) 0) ≡ t
+by-row true = refl
+by-row false = refl
+
+pub refuses-quarters : (quarters : List Mmbtu) → not (wasAccepted (steam.openedOf quarters .answer)) ≡ not (quartersInLimits quarters)
+unfolding steam.openedOf refusalBy
+refuses-quarters quarters =
+    let n = gives-number (row 7 (not (quartersInLimits quarters)) ∷ []) (posted Done (freshOf quarters)) (refused (freshOf (four (mmbtu (pos 0))))) (λ (r : steamPosted.Posted). answerNumber (r .answer)) refl (λ n. refl) in
+    ap (λ (n : ℕ). not (eqb n 0)) n ∙ by-row (not (quartersInLimits quarters))
+
+bad-division : (bytes : List ℕ) → badDivision bytes ≡ ltb 1 (firstByte bytes)
+unfolding badDivision electric.openedOf refusalBy
+bad-division bytes =
+    let n = gives-number (row 7 (ltb 1 (firstByte bytes)) ∷ []) (electric.posted Done (electric.freshOf (firstByte bytes))) (electric.refused (electric.freshOf 0)) (λ (r : electricPosted.Posted). answerNumber (r .answer)) refl (λ n. refl) in
+    ap (λ (n : ℕ). not (eqb n 0)) n ∙ by-row (ltb 1 (firstByte bytes))
 
 module _ (bytes : List ℕ) where
   -- ---- no book is opened
@@ -51,11 +81,9 @@ module _ (bytes : List ℕ) where
 
       module _ (steam : firstByte bytes ≡ 2) where
         pub bad-steam : badQuarters bytes ≡ true → openingRefused 7 ≡ journalOf bytes
-        unfolding badOpening
         bad-steam h = bad (simp (eq-eqb (firstByte bytes) 2 steam) h)
 
         pub steam-is : badQuarters bytes ≡ false → steamRun bytes ≡ journalOf bytes
-        unfolding badOpening
         steam-is h =
             ap (λ (t : Bool). cond t (steamRun bytes) (electricRun bytes)) (sym (eq-eqb (firstByte bytes) 2 steam))
             ∙ good (simp (eq-eqb (firstByte bytes) 2 steam) h)
@@ -64,14 +92,12 @@ module _ (bytes : List ℕ) where
 
       module _ (other : firstByte bytes ≡ 2 → ⊥) where
         pub bad-electric : 1 < firstByte bytes → openingRefused 7 ≡ journalOf bytes
-        unfolding badOpening
-        bad-electric h = bad (simp (ne-eqb (firstByte bytes) 2 other) (lt-ltb 1 (firstByte bytes) h))
+        bad-electric h = bad (simp (ne-eqb (firstByte bytes) 2 other) (bad-division bytes ∙ lt-ltb 1 (firstByte bytes) h))
 
         pub electric-is : firstByte bytes ≤ 1 → electricRun bytes ≡ journalOf bytes
-        unfolding badOpening
         electric-is h =
             ap (λ (t : Bool). cond t (steamRun bytes) (electricRun bytes)) (sym (ne-eqb (firstByte bytes) 2 other))
-            ∙ good (simp (ne-eqb (firstByte bytes) 2 other) (le-ltb 1 (firstByte bytes) h))
+            ∙ good (simp (ne-eqb (firstByte bytes) 2 other) (bad-division bytes ∙ le-ltb 1 (firstByte bytes) h))
 
 -- quarters that are not bad are all there
 pub quarters-there : (bytes : List ℕ) → badQuarters bytes ≡ false → 33 ≤ length bytes

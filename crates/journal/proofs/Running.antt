@@ -1,20 +1,21 @@
 -- The run of a journal, for any book: the lines stored so far, and those that are to come, are all its lines. Assumes nothing.
 use mathlib.Core.Path.{_≡_, refl, sym, ap, subst, _∙_}
+use mathlib.Core.Bool.{Bool, true, false, cond}
 use mathlib.Core.List.{List, [], _++_, append-assoc, append-nil}
 use Prim.Native.Nat.{ℕ, zero, suc, _+_, _*_, _<_, _≤_}
 use native.Mathlib.Omega.{arith}
-use lib.Dec.{eqb}
+use lib.Dec.{eqb, leb}
 use lib.ListN.{length}
-use borrow.Author.Tests.{le-leb, lt-leb, eq-eqb, ne-eqb}
+use borrow.Author.Tests.{le-leb, lt-leb, eq-eqb, ne-eqb, eqb-true}
 use Rattle.postings.specs.declared.Book.{Book}
-use Rattle.postings.specs.declared.Posting.{Posting}
 use Rattle.postings.specs.declared.Answer.{Answer}
 use Rattle.postings.specs.declared.Answer.the-variants.{Refused}
+use Rattle.riders.specs.Rules.{Rules, answeredBy, leftBy}
 use Rattle.records.specs.declared.Read.{Read}
 use Rattle.records.specs.Records.{readOf, found-on}
 use Rattle.journal.proofs.Storing.{puts-then, puts-same}
-use Rattle.journal.specs.Lines.{lineOf}
-use Rattle.journal.specs.Journal.{linesFrom}
+use Rattle.journal.specs.Lines.{recordLine}
+use Rattle.journal.specs.Journal.{linesFrom, EnoughSteps}
 use Rattle.journal.specs.Steps.{Puts}
 
 -- a record that was read has two bytes at least, and all its bytes remain
@@ -22,9 +23,9 @@ pub read-on : (kinds : Book) (bytes : List ℕ) (place : ℕ) (r : Read) → r �
 read-on kinds bytes place r e z =
     subst (λ (r : Read). (place + 2 ≤ r .place) × (r .place ≤ length bytes)) (sym e) (found-on kinds bytes place (ap (λ (r : Read). r .number) (sym e) ∙ z))
 
-module _ {B : Type 0} (kinds : Book) (answeredBy : B → Posting → Answer) (leftBy : B → Posting → B) (bytes : List ℕ) where
+module _ {B : Type 0} (kinds : Book) (rules : Rules B) (bytes : List ℕ) where
   abbrev pub lines : ℕ → B → ℕ → ℕ → List ℕ
-  lines more b place number = linesFrom kinds answeredBy leftBy more b bytes place number
+  lines more b place number = linesFrom kinds rules more b bytes place number
 
   -- ---- the lines from a place on, by what is read there
 
@@ -33,22 +34,55 @@ module _ {B : Type 0} (kinds : Book) (answeredBy : B → Posting → Answer) (le
   no-lines zero b place number h = refl
   no-lines (suc more) b place number h = simp (le-leb (length bytes) place h)
 
+  -- ---- more steps than there are bytes change nothing
+
+  module _ (b : B) (place number : ℕ) where
+    abbrev read : Read
+    read = readOf kinds bytes place
+
+    abbrev rest : ℕ → List ℕ
+    rest more = lines more (leftBy rules b (read .posting)) (read .place) (number + 1)
+
+    abbrev from : Bool → List ℕ → List ℕ
+    from found more =
+        cond (leb (length bytes) place) []
+        (cond found (recordLine number (read .posting .kind) (answeredBy rules b (read .posting)) ++ more) (recordLine number 0 (Refused (read .number))))
+
+    same-step :
+        (n m : ℕ) → length bytes ≤ place + suc n → length bytes ≤ place + suc m →
+        (length bytes ≤ read .place + n → length bytes ≤ read .place + m → rest n ≡ rest m) → lines (suc n) b place number ≡ lines (suc m) b place number
+    unfolding linesFrom
+    same-step n m h k same = go (eqb (read .number) 0) refl
+      where
+        go : (t : Bool) → eqb (read .number) 0 ≡ t → from t (rest n) ≡ from t (rest m)
+        go true e =
+            let on = found-on kinds bytes place (eqb-true (read .number) 0 e) in
+            ap (from true) (same (omega (arith, on .0, h)) (omega (arith, on .0, k)))
+        go false e = refl
+
+  same-lines : (n m : ℕ) (b : B) (place number : ℕ) → length bytes ≤ place + n → length bytes ≤ place + m → lines n b place number ≡ lines m b place number
+  unfolding linesFrom
+  same-lines zero m b place number h k = sym (no-lines m b place number (omega arith))
+  same-lines (suc n) zero b place number h k = no-lines (suc n) b place number (omega arith)
+  same-lines (suc n) (suc m) b place number h k =
+      same-step b place number n m h k (same-lines n m (leftBy rules b (readOf kinds bytes place .posting)) (readOf kinds bytes place .place) (number + 1))
+
   module _ (more : ℕ) (b : B) (place number : ℕ) (r : Read) (e : r ≡ readOf kinds bytes place) (h : place < length bytes) where
     line-read :
-        r .number ≡ 0 → (answer : Answer) → answer ≡ answeredBy b (r .posting) → (next : B) → next ≡ leftBy b (r .posting) →
-        lines (suc more) b place number ≡ lineOf number (r .posting .kind) answer ++ lines more next (r .place) (number + 1)
+        r .number ≡ 0 → (answer : Answer) → answer ≡ answeredBy rules b (r .posting) → (next : B) → next ≡ leftBy rules b (r .posting) →
+        lines (suc more) b place number ≡ recordLine number (r .posting .kind) answer ++ lines more next (r .place) (number + 1)
     unfolding linesFrom
     line-read z answer a next n =
         let found : eqb (readOf kinds bytes place .number) 0 ≡ _ = eq-eqb (readOf kinds bytes place .number) 0 (ap (λ (r : Read). r .number) (sym e) ∙ z) in
-        let by : Read → List ℕ = λ r. lineOf number (r .posting .kind) (answeredBy b (r .posting)) ++ lines more (leftBy b (r .posting)) (r .place) (number + 1) in
+        let by : Read → List ℕ = λ r. recordLine number (r .posting .kind) (answeredBy rules b (r .posting)) ++ lines more (leftBy rules b (r .posting)) (r .place) (number + 1) in
         let step : lines (suc more) b place number ≡ by (readOf kinds bytes place) = simp (lt-leb (length bytes) place h, found) in
-        step ∙ sym (ap by e) ∙ sym (λ i. lineOf number (r .posting .kind) (a i) ++ lines more (n i) (r .place) (number + 1))
+        step ∙ sym (ap by e) ∙ sym (λ i. recordLine number (r .posting .kind) (a i) ++ lines more (n i) (r .place) (number + 1))
 
-    line-refused : (r .number ≡ 0 → ⊥) → lines (suc more) b place number ≡ lineOf number 0 (Refused (r .number))
+    line-refused : (r .number ≡ 0 → ⊥) → lines (suc more) b place number ≡ recordLine number 0 (Refused (r .number))
     unfolding linesFrom
     line-refused z =
         let none : eqb (readOf kinds bytes place .number) 0 ≡ _ = ne-eqb (readOf kinds bytes place .number) 0 (λ q. z (ap (λ (r : Read). r .number) e ∙ q)) in
-        let by : Read → List ℕ = λ r. lineOf number 0 (Refused (r .number)) in
+        let by : Read → List ℕ = λ r. recordLine number 0 (Refused (r .number)) in
         let step : lines (suc more) b place number ≡ by (readOf kinds bytes place) = simp (lt-leb (length bytes) place h, none) in
         step ∙ sym (ap by e)
 
@@ -87,7 +121,7 @@ module _ {B : Type 0} (kinds : Book) (answeredBy : B → Posting → Answer) (le
 
     module _ (r : Read) (e : r ≡ readOf kinds bytes place) (h : place < length bytes) (after : ℕ) (next-out : List ℕ) where
       -- a reading refusal ends the run
-      pub stopped : (r .number ≡ 0 → ⊥) → Puts (lineOf number 0 (Refused (r .number))) used out after next-out → Puts whole 0 start after next-out
+      pub stopped : (r .number ≡ 0 → ⊥) → Puts (recordLine number 0 (Refused (r .number))) used out after next-out → Puts whole 0 start after next-out
       stopped z p = go (k .more) refl
         where
           go : (more : ℕ) → k .more ≡ more → Puts whole 0 start after next-out
@@ -100,15 +134,15 @@ module _ {B : Type 0} (kinds : Book) (answeredBy : B → Posting → Answer) (le
 
       -- a record's line is stored, and the next book takes the next record
       pub again :
-          r .number ≡ 0 → (answer : Answer) → answer ≡ answeredBy b (r .posting) → (next : B) → next ≡ leftBy b (r .posting) →
-          Puts (lineOf number (r .posting .kind) answer) used out after next-out → after ≤ used + 82 → length next-out ≡ length out →
+          r .number ≡ 0 → (answer : Answer) → answer ≡ answeredBy rules b (r .posting) → (next : B) → next ≡ leftBy rules b (r .posting) →
+          Puts (recordLine number (r .posting .kind) answer) used out after next-out → after ≤ used + 82 → length next-out ≡ length out →
           Kept whole start next (r .place) (number + 1) after next-out
       again z answer a next n p most long = go (k .more) refl
         where
           go : (more : ℕ) → k .more ≡ more → Kept whole start next (r .place) (number + 1) after next-out
           go zero q = absurd (omega (arith, k .enough))
           go (suc more) q =
-              let line = lineOf number (r .posting .kind) answer in
+              let line = recordLine number (r .posting .kind) answer in
               let on = read-on kinds bytes place r e z in
               record {
                 before = k .before ++ line;
@@ -124,3 +158,6 @@ module _ {B : Type 0} (kinds : Book) (answeredBy : B → Posting → Answer) (le
                 few = omega (arith, on .0, k .few);
                 counted = omega (arith, on .0, k .counted);
               }
+
+pub enough-steps : {B : Type 0} (kinds : Book) (rules : Rules B) → EnoughSteps kinds rules
+enough-steps = same-lines

@@ -9,7 +9,7 @@ use lib.Seq.{sets, sets-eq, length-sets, take-all, drop-drop}
 use borrow.Author.Tests.{lt-ltb, le-ltb}
 use Rattle.refusals.specs.Laws.{row-passed, row-holds}
 use Rattle.refusals.specs.Stores.{sets-append, sets-front}
-use Rattle.refusals.specs.Writer.{wrote, refused}
+use Rattle.refusals.specs.Writer.{wrote, writerRefused}
 use Rattle.amounts.specs.Text.{textWritten, textLeft}
 use Rattle.journal.specs.Steps.{Puts}
 use Rattle.amounts.proofs.Texts as texts
@@ -60,15 +60,15 @@ puts-same {xs} {ys} {l} {m} {used} {after} e p = subst (λ (zs : List ℕ). Puts
 -- ---- the answer of the writer of a text
 
 module _ (text buffer : List ℕ) (n : ℕ) (e : n ≡ length text) where
-  pub short : length buffer < n → (refused 13 ≡ textWritten text buffer) × (buffer ≡ textLeft text buffer)
+  pub short : length buffer < n → (writerRefused 13 ≡ textWritten text buffer) × (buffer ≡ textLeft text buffer)
   short h = (
-    sym (row-holds 13 (wrote n) refused (omega arith) (lt-ltb (length buffer) n h)) ∙ texts.answered text buffer n (length buffer) e refl,
+    sym (row-holds 13 (wrote n) writerRefused (omega arith) (lt-ltb (length buffer) n h)) ∙ texts.answered text buffer n (length buffer) e refl,
     texts.kept text buffer (omega arith),
   )
 
 pub whole : (text buffer after : List ℕ) (n : ℕ) → Puts text 0 buffer n after → n ≤ length buffer → (wrote n ≡ textWritten text buffer) × (after ≡ textLeft text buffer)
 whole text buffer after n p h =
     let e : n ≡ length text = omega (arith, p .counted) in (
-      sym (row-passed 13 (wrote n) refused (le-ltb (length buffer) n h)) ∙ texts.answered text buffer n (length buffer) e refl,
+      sym (row-passed 13 (wrote n) writerRefused (le-ltb (length buffer) n h)) ∙ texts.answered text buffer n (length buffer) e refl,
       texts.stored text buffer after (omega arith) (p .stored (omega arith)),
     )

@@ -1,31 +1,31 @@
 -- What the journal program prints for an input (01, Text and the journal program).
+use mathlib.Core.Path.{_≡_}
 use mathlib.Core.Bool.{Bool, cond, not, _||_}
 use mathlib.Core.List.{List, [], _∷_, _++_}
-use Prim.Native.Nat.{ℕ, zero, suc, _+_, _*_}
+use Prim.Native.Nat.{ℕ, zero, suc, _+_, _*_, _≤_}
 use lib.Dec.{eqb, leb, ltb}
 use lib.ListN.{length, getD, drop}
 use Rattle.refusals.specs.Rows.{Row, row, byTable}
 use Rattle.postings.specs.declared.Book.{Book}
 use Rattle.postings.specs.declared.Book.the-variants.{Electric, Steam}
-use Rattle.postings.specs.declared.Posting.{Posting}
-use Rattle.postings.specs.declared.Answer.{Answer}
 use Rattle.postings.specs.declared.Answer.the-variants.{Refused}
+use Rattle.riders.specs.Rules.{Rules, answeredBy, leftBy}
+use Rattle.riders.specs.Histories.{wasAccepted}
 use Rattle.electric_rules.specs.declared.ElectricBook.{ElectricBook}
 use Rattle.steam_rules.specs.declared.Mmbtu.{Mmbtu}
 use Rattle.steam_rules.specs.declared.SteamBook.{SteamBook}
 use Rattle.steam_rules.specs.Book.{mmbtu}
-use Rattle.steam_rules.specs.Limits.{quartersInLimits}
 use Rattle.records.specs.Fields.{fieldOf}
 use Rattle.records.specs.Records.{readOf}
-use Rattle.journal.specs.Lines.{lineOf, openingRefused}
-use Rattle.electric_rules.specs.Book as electric
-use Rattle.electric_rules.specs.Claim as electricHistory
-use Rattle.steam_rules.specs.Opening as steam
-use Rattle.steam_rules.specs.Claim as steamHistory
+use Rattle.journal.specs.Lines.{recordLine, openingRefused}
+use Rattle.electric_rules.specs.Book as electricOpening
+use Rattle.electric_rules.specs.Refusals as electric
+use Rattle.steam_rules.specs.Opening as steamOpening
+use Rattle.steam_rules.specs.Refusals as steam
 
--- ---- the records, for either book: its kinds, and what a posting to it is answered and leaves of it
+-- ---- the records, for any book: its kinds and its rules
 
-module _ {B : Type 0} (kinds : Book) (answeredBy : B → Posting → Answer) (leftBy : B → Posting → B) where
+module _ {B : Type 0} (kinds : Book) (rules : Rules B) where
   -- the lines of the records from a place on, the next of them of this number. Where no byte remains the run ends without a line; a
   -- reading refusal prints kind 0 and ends the run. At most `more` records are read.
   unfoldable pub linesFrom : ℕ → B → List ℕ → ℕ → ℕ → List ℕ
@@ -35,15 +35,21 @@ module _ {B : Type 0} (kinds : Book) (answeredBy : B → Posting → Answer) (le
       let posting = read .posting in
       cond (leb (length bytes) place) []
       (cond (eqb (read .number) 0)
-      (lineOf number (posting .kind) (answeredBy b posting) ++ linesFrom more (leftBy b posting) bytes (read .place) (number + 1))
-      (lineOf number 0 (Refused (read .number))))
+      (recordLine number (posting .kind) (answeredBy rules b posting) ++ linesFrom more (leftBy rules b posting) bytes (read .place) (number + 1))
+      (recordLine number 0 (Refused (read .number))))
+
+  -- more steps change nothing: any two counts that are as many as the bytes that remain give the same lines. Proved in proofs/Running.antt.
+  abbrev pub EnoughSteps : Type 0
+  EnoughSteps =
+      (bytes : List ℕ) (n m : ℕ) (b : B) (place number : ℕ) → length bytes ≤ place + n → length bytes ≤ place + m →
+      linesFrom n b bytes place number ≡ linesFrom m b bytes place number
 
 -- a record has two bytes at least, so there are no more records than bytes; they are numbered from 1
 unfoldable pub electricLines : ElectricBook → List ℕ → ℕ → List ℕ
-electricLines b bytes place = linesFrom Electric electricHistory.answeredBy electricHistory.leftBy (length bytes) b bytes place 1
+electricLines b bytes place = linesFrom Electric electric.rules (length bytes) b bytes place 1
 
 unfoldable pub steamLines : SteamBook → List ℕ → ℕ → List ℕ
-steamLines b bytes place = linesFrom Steam steamHistory.answeredBy steamHistory.leftBy (length bytes) b bytes place 1
+steamLines b bytes place = linesFrom Steam steam.rules (length bytes) b bytes place 1
 
 -- ---- the opening: 00 or 01, or 02 with four 8-byte quarters
 
@@ -58,19 +64,22 @@ quartersIn bytes =
 abbrev pub opensSteam : List ℕ → Bool
 opensSteam bytes = eqb (firstByte bytes) 2
 
--- cut short, or one out of range
+-- bad is an opening that the book refuses; behind 02 also one that is cut short
 unfoldable pub badQuarters : List ℕ → Bool
-badQuarters bytes = ltb (length bytes) 33 || not (quartersInLimits (quartersIn bytes))
+badQuarters bytes = ltb (length bytes) 33 || not (wasAccepted (steamOpening.openedOf (quartersIn bytes) .answer))
 
-unfoldable pub badOpening : List ℕ → Bool
-badOpening bytes = cond (opensSteam bytes) (badQuarters bytes) (ltb 1 (firstByte bytes))
+unfoldable pub badDivision : List ℕ → Bool
+badDivision bytes = not (wasAccepted (electricOpening.openedOf (firstByte bytes) .answer))
+
+abbrev pub badOpening : List ℕ → Bool
+badOpening bytes = cond (opensSteam bytes) (badQuarters bytes) (badDivision bytes)
 
 -- the lines of the records behind the opening
 abbrev pub electricRun : List ℕ → List ℕ
-electricRun bytes = electricLines (electric.openedOf (firstByte bytes) .book) bytes 1
+electricRun bytes = electricLines (electricOpening.openedOf (firstByte bytes) .book) bytes 1
 
 abbrev pub steamRun : List ℕ → List ℕ
-steamRun bytes = steamLines (steam.openedOf (quartersIn bytes) .book) bytes 33
+steamRun bytes = steamLines (steamOpening.openedOf (quartersIn bytes) .book) bytes 33
 
 -- ---- the whole
 

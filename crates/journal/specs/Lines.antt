@@ -22,8 +22,8 @@ answerText Done = ascii "done"
 answerText (Refused n) = ascii "refused " ++ decimal n
 
 -- a record prints its number, its kind in decimal and the answer
-unfoldable pub lineOf : ℕ → ℕ → Answer → List ℕ
-lineOf number kind answer = decimal number ++ ascii " " ++ decimal kind ++ ascii " " ++ answerText answer ++ ascii "\n"
+unfoldable pub recordLine : ℕ → ℕ → Answer → List ℕ
+recordLine number kind answer = decimal number ++ ascii " " ++ decimal kind ++ ascii " " ++ answerText answer ++ ascii "\n"
 
 -- what is printed for an input that opens no book
 unfoldable pub openingRefused : ℕ → List ℕ

@@ -56,7 +56,7 @@ fn put_journal(input: &[u8], buffer: &mut [u8]) -> usize
 }
 
 // How many bytes the journal of the input is, which is no more than there is room enough for.
-pub fn length(input: &[u8]) -> usize
+pub fn printed_length(input: &[u8]) -> usize
     ensures { λ r. ⌜ (r ≡ length (journalOf (now (input .entry)))) × (r ≤ roomOf (length (now (input .entry)))) ⌝ }
 {
     // No line fits one byte, so the lines are only counted.
@@ -75,7 +75,7 @@ pub fn write(input: &[u8], buffer: &mut [u8]) -> Written
             length: put_journal(input, buffer),
         };
     }
-    if buffer.len() < length(input) {
+    if buffer.len() < printed_length(input) {
         return Written {
             number: 13,
             length: 0,

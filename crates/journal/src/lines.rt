@@ -7,7 +7,7 @@ ghost use mathlib.Core.Path.{_≡_};
 ghost use mathlib.Core.List.{_++_};
 ghost use Prim.Native.Nat.{_+_, _^_, _≤_};
 ghost use Rattle.amounts.specs.Text.{decimal};
-ghost use Rattle.journal.specs.Lines.{ascii, answerText, lineOf, openingRefused};
+ghost use Rattle.journal.specs.Lines.{ascii, answerText, recordLine, openingRefused};
 ghost use Rattle.journal.specs.Steps.{Puts};
 
 fn put_bill(buffer: &mut [u8], used: usize, cents: Cents) -> usize
@@ -90,7 +90,7 @@ pub(crate) fn put_line(
     answer: Answer,
 ) -> usize
     requires { ⌜ used ≤ 2 ^ 32 ⌝ }
-    ensures { λ r. ⌜ Puts (lineOf number kind answer) used (now (buffer .entry)) r (now (buffer .exit)) × (r ≤ used + 82) ⌝ }
+    ensures { λ r. ⌜ Puts (recordLine number kind answer) used (now (buffer .entry)) r (now (buffer .exit)) × (r ≤ used + 82) ⌝ }
 {
     let third = put_head(buffer, used, number, kind);
     let end = put_answer(buffer, third, answer);

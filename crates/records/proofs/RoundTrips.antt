@@ -11,7 +11,7 @@ use borrow.Author.Tests.{ltb-false, le-ltb}
 use Rattle.ints.specs.Digits.{Digits}
 use Rattle.refusals.specs.Rows.{refusalBy, byTable}
 use Rattle.refusals.specs.Laws.{NoneHolds, none-holds, accepted, gives-asked}
-use Rattle.refusals.specs.Writer.{tooShort, wrote, refused, written-number}
+use Rattle.refusals.specs.Writer.{tooShort, wrote, writerRefused, written-number}
 use Rattle.refusals.specs.declared.Written.{Written}
 use Rattle.postings.proofs.BitMaps.{count, map-of-bits, bits-of-map, map-small, ones-of-bits}
 use Rattle.postings.proofs.KindTable.{maps-most, none-beyond, small-map}
@@ -80,7 +80,7 @@ written-is-read book p before buffer n words e =
     let rows = writingRows book p buffer in
     let none : refusalBy rows ≡ 0 = sym (written-number rows (recordOf p)) ∙ ap (λ (w : Written). w .number) e in
     let holds = none-holds rows tt none in
-    let long : length (recordOf p) ≡ n = ap (λ (w : Written). w .length) (sym (gives-asked rows (wrote (length (recordOf p))) refused none) ∙ e) in
+    let long : length (recordOf p) ≡ n = ap (λ (w : Written). w .length) (sym (gives-asked rows (wrote (length (recordOf p))) writerRefused none) ∙ e) in
     let after = drop (length (recordOf p)) buffer in
     ap (λ (l : List ℕ). readOf book (before ++ l) (length before)) (gives-asked rows (recordOf p ++ after) (λ (k : ℕ). buffer) none)
     ∙ record-read book p before after words (holds .0) (holds .1 .0)
@@ -165,7 +165,7 @@ module _ (book : Book) (rest : List ℕ) (d : Digits 256 rest) (pass : NoneHolds
       let stands = none-beyond book kind (standing (numbersOf q)) (pass .1 .0) (omega (arith, map-kept, small)) in
       let room : length (recordOf q) ≤ length buffer = omega (arith, long) in
       let none = accepted rows (pass .1 .0, (stands, (le-ltb _ _ room, tt))) in (
-        gives-asked rows (wrote (length (recordOf q))) refused none ∙ ap wrote long,
+        gives-asked rows (wrote (length (recordOf q))) writerRefused none ∙ ap wrote long,
         gives-asked rows (recordOf q ++ drop (length (recordOf q)) buffer) (λ (n : ℕ). buffer) none ∙ (λ i. record-kept i ++ drop (long i) buffer),
       )
 

@@ -14,7 +14,7 @@ use Rattle.ints.specs.Machine.{eqZ}
 use Rattle.refusals.specs.Rows.{Row, refusalBy}
 use Rattle.refusals.specs.Laws.{at-row, past-row, accepted}
 use Rattle.refusals.specs.Stores.{sets-append}
-use Rattle.refusals.specs.Writer.{wrote, refused, tooShort, writer-refuses, writer-accepts}
+use Rattle.refusals.specs.Writer.{wrote, writerRefused, tooShort, writer-refuses, writer-accepts}
 use Rattle.postings.proofs.BitMaps.{count, ones-of-map}
 use Rattle.postings.proofs.KindTable.{maps-none, maps-some, stands-beyond, none-beyond}
 use Rattle.postings.specs.Kinds.{fieldsOf, unknownKind, numbersOf, standing, standsBeyond, strayNumber}
@@ -75,18 +75,18 @@ module _ (book : Book) (p : Posting) (buffer : List ℕ) where
   abbrev rows : List Row
   rows = writingRows book p buffer
 
-  by-row : (n : ℕ) → 0 < n → refusalBy rows ≡ n → (refused n ≡ recordWritten book p buffer) × (buffer ≡ recordLeft book p buffer)
+  by-row : (n : ℕ) → 0 < n → refusalBy rows ≡ n → (writerRefused n ≡ recordWritten book p buffer) × (buffer ≡ recordLeft book p buffer)
   unfolding recordWritten recordLeft
   by-row n h e = writer-refuses rows (recordOf p) buffer n h e
 
-  pub refused₂ : mapsOf book (p .kind) ≡ 0 → (refused 2 ≡ recordWritten book p buffer) × (buffer ≡ recordLeft book p buffer)
+  pub refused₂ : mapsOf book (p .kind) ≡ 0 → (writerRefused 2 ≡ recordWritten book p buffer) × (buffer ≡ recordLeft book p buffer)
   refused₂ e = by-row 2 (lit< tt) (at-row 2 _ (maps-none book (p .kind) e))
 
   module _ (has : 0 < mapsOf book (p .kind)) where
     known : unknownKind book (p .kind) ≡ false
     known = maps-some book (p .kind) has
 
-    pub refused₃ : mapsOf book (p .kind) ≤ bitMapOf bits → (refused 3 ≡ recordWritten book p buffer) × (buffer ≡ recordLeft book p buffer)
+    pub refused₃ : mapsOf book (p .kind) ≤ bitMapOf bits → (writerRefused 3 ≡ recordWritten book p buffer) × (buffer ≡ recordLeft book p buffer)
     unfolding strayNumber
     refused₃ h = by-row 3 (lit< tt) (past-row 2 _ known ∙ at-row 3 _ (stands-beyond book (p .kind) bits known h))
 
@@ -94,7 +94,7 @@ module _ (book : Book) (p : Posting) (buffer : List ℕ) where
       none : standsBeyond (fieldsOf book (p .kind)) bits ≡ false
       none = none-beyond book (p .kind) bits known few
 
-      pub refused₁₃ : length buffer < length (recordOf p) → (refused 13 ≡ recordWritten book p buffer) × (buffer ≡ recordLeft book p buffer)
+      pub refused₁₃ : length buffer < length (recordOf p) → (writerRefused 13 ≡ recordWritten book p buffer) × (buffer ≡ recordLeft book p buffer)
       unfolding tooShort strayNumber
       refused₁₃ h = by-row 13 (lit< tt) (past-row 2 _ known ∙ past-row 3 _ none ∙ at-row 13 [] (lt-ltb (length buffer) (length (recordOf p)) h))
 

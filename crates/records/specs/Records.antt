@@ -12,7 +12,7 @@ use borrow.Author.Tests.{ltb-false}
 use Rattle.ints.specs.Machine.{eqZ}
 use Rattle.refusals.specs.Rows.{Row, row, refusalBy, byTable}
 use Rattle.refusals.specs.Laws.{none-holds, gives-asked, gives-number}
-use Rattle.refusals.specs.Writer.{tooShort, writtenBy, leftBy}
+use Rattle.refusals.specs.Writer.{tooShort, writtenBy, bufferLeft}
 use Rattle.refusals.specs.declared.Written.{Written}
 use Rattle.postings.specs.BitMaps.{bitsFrom, bitMapOf}
 use Rattle.postings.specs.Kinds.{fieldsOf, unknownKind, numbersOf, standing, standsBeyond, strayNumber}
@@ -121,4 +121,4 @@ unfoldable pub recordWritten : Book → Posting → List ℕ → Written
 recordWritten book p buffer = writtenBy (writingRows book p buffer) (recordOf p)
 
 unfoldable pub recordLeft : Book → Posting → List ℕ → List ℕ
-recordLeft book p buffer = leftBy (writingRows book p buffer) (recordOf p) buffer
+recordLeft book p buffer = bufferLeft (writingRows book p buffer) (recordOf p) buffer

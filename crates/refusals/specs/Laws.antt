@@ -80,6 +80,13 @@ in-parts (r ∷ rows) more h = go (r .condition) (in-parts rows more (T-right (l
     go true e = sym (ap (λ (t : Bool). cond t (refusalBy more) (r .number)) (ne-eqb (r .number) 0 (λ z. let l = ltb→lt 0 (r .number) (T-left (ltb 0 (r .number)) (numbered rows) h) in omega arith)))
     go false e = e
 
+module _ (rows more : List Row) (positive : T (numbered rows)) where
+  pub decided-earlier : (n : ℕ) → 0 < n → refusalBy rows ≡ n → refusalBy (rows ++ more) ≡ n
+  decided-earlier n h e = in-parts rows more positive ∙ simp (e, ne-eqb n 0 (λ z. omega arith))
+
+  pub decided-later : refusalBy rows ≡ 0 → refusalBy (rows ++ more) ≡ refusalBy more
+  decided-later e = in-parts rows more positive ∙ simp e
+
 -- ---- what a call gives
 
 module _ {A : Type 0} (rows : List Row) (asked : A) (refused : ℕ → A) where
@@ -100,30 +107,16 @@ module _ {A : Type 0} (rows : List Row) (asked : A) (refused : ℕ → A) where
       go true e = a ∙ sym (eqb-true (refusalBy rows) 0 e)
       go false e = r (refusalBy rows)
 
-  -- by a table in two parts: a number of the first part stands, and without one the second part decides
-  module _ (more : List Row) (positive : T (numbered rows)) where
-    pub gives-earlier : (n : ℕ) → 0 < n → refusalBy rows ≡ n → byTable (rows ++ more) asked refused ≡ refused n
-    unfolding byTable
-    gives-earlier n h e =
-        let parts : refusalBy (rows ++ more) ≡ n = in-parts rows more positive ∙ simp (e, ne-eqb n 0 (λ z. omega arith)) in
-        simp (parts, ne-eqb n 0 (λ z. omega arith))
-
-    pub gives-later : refusalBy rows ≡ 0 → byTable (rows ++ more) asked refused ≡ byTable more asked refused
-    unfolding byTable
-    gives-later e =
-        let parts : refusalBy (rows ++ more) ≡ refusalBy more = in-parts rows more positive ∙ simp e in
-        ap (λ (n : ℕ). cond (eqb n 0) asked (refused n)) parts
-
 -- what is so of what was asked, where no row holds, and of every refusal, is so of what a call gives
 pub by-table :
     {A : Type 0} (P : A → Type 0) (rows : List Row) (asked : A) (refused : ℕ → A) → T (numbered rows) →
-    (NoneHolds rows → P asked) → ((n : ℕ) → P (refused n)) → P (byTable rows asked refused)
+    (NoneHolds rows → P asked) → ((n : ℕ) → eqb n 0 ≡ false → P (refused n)) → P (byTable rows asked refused)
 unfolding byTable
 by-table P rows asked refused h accepts refuses = go (eqb (refusalBy rows) 0) refl
   where
     go : (t : Bool) → eqb (refusalBy rows) 0 ≡ t → P (cond t asked (refused (refusalBy rows)))
     go true e = accepts (none-holds rows h (eqb-true (refusalBy rows) 0 e))
-    go false e = refuses (refusalBy rows)
+    go false e = refuses (refusalBy rows) e
 
 -- ---- a table of one row
 

@@ -20,3 +20,8 @@ refusalBy (r ∷ rows) = cond (r .condition) (r .number) (refusalBy rows)
 -- what a call gives by its table: a refusal with its number, or what was asked for
 unfoldable pub byTable {ℓ} : {A : Type ℓ} → List Row → A → (ℕ → A) → A
 byTable rows accepted refused = cond (eqb (refusalBy rows) 0) accepted (refused (refusalBy rows))
+
+-- the rows before the one of this number
+abbrev pub before : ℕ → List Row → List Row
+before n [] = []
+before n (r ∷ rows) = cond (eqb (r .number) n) [] (r ∷ before n rows)

@@ -19,27 +19,27 @@ tooShort bytes buffer = ltb (length buffer) (length bytes)
 abbrev pub wrote : ℕ → Written
 wrote count = record { number = 0; length = count }
 
-abbrev pub refused : ℕ → Written
-refused n = record { number = n; length = 0 }
+abbrev pub writerRefused : ℕ → Written
+writerRefused n = record { number = n; length = 0 }
 
 abbrev pub writtenBy : List Row → List ℕ → Written
-writtenBy rows bytes = byTable rows (wrote (length bytes)) refused
+writtenBy rows bytes = byTable rows (wrote (length bytes)) writerRefused
 
 -- the buffer afterwards: the bytes, with those past them untouched; every byte as it was where the writer refuses
-abbrev pub leftBy : List Row → List ℕ → List ℕ → List ℕ
-leftBy rows bytes buffer = byTable rows (bytes ++ drop (length bytes) buffer) (λ (n : ℕ). buffer)
+abbrev pub bufferLeft : List Row → List ℕ → List ℕ → List ℕ
+bufferLeft rows bytes buffer = byTable rows (bytes ++ drop (length bytes) buffer) (λ (n : ℕ). buffer)
 
 -- ---- laws: what code has to show of its answer and of the buffer that it leaves
 
-pub writer-refuses : (rows : List Row) (bytes buffer : List ℕ) (n : ℕ) → 0 < n → refusalBy rows ≡ n → (refused n ≡ writtenBy rows bytes) × (buffer ≡ leftBy rows bytes buffer)
-writer-refuses rows bytes buffer n h e = (sym (gives-refusal rows _ refused n h e), sym (gives-refusal rows _ (λ (m : ℕ). buffer) n h e))
+pub writer-refuses : (rows : List Row) (bytes buffer : List ℕ) (n : ℕ) → 0 < n → refusalBy rows ≡ n → (writerRefused n ≡ writtenBy rows bytes) × (buffer ≡ bufferLeft rows bytes buffer)
+writer-refuses rows bytes buffer n h e = (sym (gives-refusal rows _ writerRefused n h e), sym (gives-refusal rows _ (λ (m : ℕ). buffer) n h e))
 
-pub writer-accepts : (rows : List Row) (bytes buffer after : List ℕ) (n : ℕ) → refusalBy rows ≡ 0 → length bytes ≤ length buffer → n ≡ length bytes → after ≡ sets buffer 0 bytes → (wrote n ≡ writtenBy rows bytes) × (after ≡ leftBy rows bytes buffer)
+pub writer-accepts : (rows : List Row) (bytes buffer after : List ℕ) (n : ℕ) → refusalBy rows ≡ 0 → length bytes ≤ length buffer → n ≡ length bytes → after ≡ sets buffer 0 bytes → (wrote n ≡ writtenBy rows bytes) × (after ≡ bufferLeft rows bytes buffer)
 writer-accepts rows bytes buffer after n e h l s = (
-  ap wrote l ∙ sym (gives-asked rows (wrote (length bytes)) refused e),
+  ap wrote l ∙ sym (gives-asked rows (wrote (length bytes)) writerRefused e),
   s ∙ sets-front buffer bytes h ∙ sym (gives-asked rows (bytes ++ drop (length bytes) buffer) (λ (m : ℕ). buffer) e),
 )
 
 -- the number answered is the table's
 pub written-number : (rows : List Row) (bytes : List ℕ) → writtenBy rows bytes .number ≡ refusalBy rows
-written-number rows bytes = gives-number rows (wrote (length bytes)) refused (λ (w : Written). w .number) refl (λ n. refl)
+written-number rows bytes = gives-number rows (wrote (length bytes)) writerRefused (λ (w : Written). w .number) refl (λ n. refl)

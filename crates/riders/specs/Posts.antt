@@ -1,48 +1,62 @@
--- What a posting gives, for any book, once the rows that look at the book and the posting are gone through: refusal 12, or the answer and the
--- next book. Assumes nothing.
-use mathlib.Core.Path.{_≡_, sym, ap, _∙_}
-use mathlib.Core.Bool.{Bool, true, false, not}
+-- What a posting gives, as the code works it out: the rows before 12, then the effect, then the limits of the next book. For any book whose
+-- table ends in row 12. Assumes nothing.
+use mathlib.Core.Path.{_≡_, refl, sym, ap, _∙_}
+use mathlib.Core.Bool.{Bool, true, false, not, true≢false}
 use mathlib.Core.List.{List, [], _∷_, _++_}
 use Prim.Native.Nat.{ℕ, _<_}
 use native.Mathlib.Omega.{arith}
 use lib.Dec.{T}
+use lib.IntN.{ℤ}
 use borrow.Author.Tests.{not-false}
-use Rattle.refusals.specs.Rows.{Row, row, refusalBy, byTable}
-use Rattle.refusals.specs.Laws.{numbered, none-holds, gives-earlier, gives-later, row-passed, row-holds}
+use Rattle.refusals.specs.Rows.{Row, row, refusalBy, before}
+use Rattle.refusals.specs.Laws.{numbered, none-holds, at-row, past-row, decided-earlier, decided-later, gives-asked, gives-refusal}
+use Rattle.amounts.specs.Amounts.{points, pointsInLimits}
 use Rattle.postings.specs.Kinds.{kindOf, unknownKind, strayNumber, outOfRange}
 use Rattle.postings.specs.Ranged.{Ranged, none-out-of-range}
 use Rattle.postings.specs.declared.Book.{Book}
 use Rattle.postings.specs.declared.Posting.{Posting}
+use Rattle.postings.specs.declared.Answer.{Answer}
+use Rattle.postings.specs.declared.Answer.the-variants.{Refused}
+use Rattle.riders.specs.Runs.{narrowed, narrowed-in, narrowed-out}
+use Rattle.riders.specs.Rules.{Rules, answeredBy, leftBy}
 
-module _ {Held Posted : Type 0} (inLimits : Held → Bool) (bookIn : Posted → Held) (refused : Held → ℕ → Posted) where
-  -- 12: a value stored in the next book would be outside its limits
-  abbrev lastRow : Posted → List Row
-  lastRow next = row 12 (not (inLimits (bookIn next))) ∷ []
+-- ---- by the table: a row before 12 refuses, or 12 does, or the next book is stored
 
-  unfoldable pub storedOr12 : Held → Posted → Posted
-  storedOr12 b next = byTable (lastRow next) next (refused b)
+module _ {Held Posted : Type 0} (posted : Answer → Held → Posted) (rules : Rules Held) (b : Held) (p : Posting) where
+  abbrev given : Posted
+  given = posted (answeredBy rules b p) (leftBy rules b p)
 
-  module _ (b : Held) (next : Posted) where
-    pub stored : inLimits (bookIn next) ≡ true → storedOr12 b next ≡ next
-    unfolding storedOr12
-    stored e = row-passed 12 next (refused b) (ap not e)
+  refused-by : (n : ℕ) → 0 < n → refusalBy (rules .rows b p) ≡ n → posted (Refused n) b ≡ given
+  unfolding answeredBy leftBy
+  refused-by n h e = sym (λ i. posted (gives-refusal (rules .rows b p) (rules .answer b p) Refused n h e i) (gives-refusal (rules .rows b p) (rules .next b p) (λ (m : ℕ). b) n h e i))
 
-    pub refused-12 : inLimits (bookIn next) ≡ false → storedOr12 b next ≡ refused b 12
-    unfolding storedOr12
-    refused-12 e = row-holds 12 next (refused b) (omega arith) (ap not e)
+  accepted-by : refusalBy (rules .rows b p) ≡ 0 → posted (rules .answer b p) (rules .next b p) ≡ given
+  unfolding answeredBy leftBy
+  accepted-by e = sym (λ i. posted (gives-asked (rules .rows b p) (rules .answer b p) Refused e i) (gives-asked (rules .rows b p) (rules .next b p) (λ (m : ℕ). b) e i))
 
-  -- the number of the rows before, and what the whole table gives
-  module _ (rows : List Row) (positive : T (numbered rows)) (b : Held) (next : Posted) {n : ℕ} (e : n ≡ refusalBy rows) where
-    pub refused-before : (n ≡ 0 → ⊥) → refused b n ≡ byTable (rows ++ lastRow next) next (refused b)
-    refused-before h =
-        let l : 0 < n = omega arith in
-        sym (gives-earlier rows next (refused b) (lastRow next) positive n l (sym e))
+  module _
+      (inLimits : Held → Bool) (table : rules .rows b p ≡ before 12 (rules .rows b p) ++ (row 12 (not (inLimits (rules .next b p))) ∷ []))
+      (positive : T (numbered (before 12 (rules .rows b p)))) {n : ℕ} (e : n ≡ refusalBy (before 12 (rules .rows b p)))
+    where
+      pub refused-before : (n ≡ 0 → ⊥) → posted (Refused n) b ≡ given
+      refused-before h =
+          let l : 0 < n = omega arith in
+          refused-by n l (ap refusalBy table ∙ decided-earlier (before 12 (rules .rows b p)) _ positive n l (sym e))
 
-    pub none-before : n ≡ 0 → storedOr12 b next ≡ byTable (rows ++ lastRow next) next (refused b)
-    unfolding storedOr12
-    none-before z = sym (gives-later rows next (refused b) (lastRow next) positive (sym e ∙ z))
+      module _ (z : n ≡ 0) where
+        last : refusalBy (rules .rows b p) ≡ refusalBy (row 12 (not (inLimits (rules .next b p))) ∷ [])
+        last = ap refusalBy table ∙ decided-later (before 12 (rules .rows b p)) _ positive (sym e ∙ z)
 
--- what the rows that every table begins with have shown, where no row before the next book holds
+        pub refused-12 : inLimits (rules .next b p) ≡ false → posted (Refused 12) b ≡ given
+        refused-12 f = refused-by 12 (omega arith) (last ∙ at-row 12 [] (ap not f))
+
+        pub stored : inLimits (rules .next b p) ≡ true → posted (rules .answer b p) (rules .next b p) ≡ given
+        unfolding refusalBy
+        stored f = accepted-by (last ∙ past-row 12 [] (ap not f))
+
+-- ---- what the effect may rely on
+
+-- what the rows that every table begins with have shown, where no row before 12 holds
 module _ (book : Book) {Held : Type 0} (inLimits : Held → Bool) (b : Held) (p : Posting) (rest : List Row) where
   abbrev begins : List Row
   begins = row 2 (unknownKind book (p .kind)) ∷ row 3 (strayNumber book p) ∷ row 6 (not (inLimits b)) ∷ row 7 (outOfRange book p) ∷ rest
@@ -51,3 +65,27 @@ module _ (book : Book) {Held : Type 0} (inLimits : Held → Bool) (b : Held) (p 
   shown positive e z =
       let none = none-holds begins positive (sym e ∙ z) in
       (not-false _ (none .1 .1 .0), none-out-of-range book p (none .1 .1 .1 .0), none .0)
+
+-- ---- what is asked of the effect
+
+-- stored or refused alike: both are within the limits or neither is, and within them they are the same
+pub record StoredAs {Posted : Type 0} (fits : Posted → Bool) (effect rules : Posted) : Type 0 where
+  pub alike : fits effect ≡ fits rules
+  pub same : fits effect ≡ true → effect ≡ rules
+
+module _ {Posted : Type 0} (fits : Posted → Bool) where
+  pub stored-same : {a b : Posted} → a ≡ b → StoredAs fits a b
+  stored-same e = record { alike = ap fits e; same = (λ h. e) }
+
+  pub stored-then : {a b c : Posted} → StoredAs fits a b → StoredAs fits b c → StoredAs fits a c
+  stored-then e f = record { alike = e .alike ∙ f .alike; same = (λ h. e .same h ∙ f .same (sym (e .alike) ∙ h)) }
+
+  -- a factor that the code has narrowed is stored or refused as its quotient is, where no factor out of limits is stored
+  pub narrowed-stored : (given : ℤ → Posted) → ((f : ℤ) → pointsInLimits (points f) ≡ false → fits (given f) ≡ false) → (q : ℤ) → StoredAs fits (given (narrowed q)) (given q)
+  narrowed-stored given out q = go (pointsInLimits (points q)) refl
+    where
+      go : (t : Bool) → pointsInLimits (points q) ≡ t → StoredAs fits (given (narrowed q)) (given q)
+      go true e = stored-same (ap given (narrowed-in q e))
+      go false e =
+          let o = out (narrowed q) (narrowed-out q e) in
+          record { alike = o ∙ sym (out q e); same = (λ h. absurd (true≢false (sym h ∙ o))) }

@@ -1,6 +1,6 @@
 -- A run (01, Electric book and Steam book): a factor, the cents that are due under it, and what it may store; and a factor as the code passes
 -- it on. Laws: what the limits tell. Assumes nothing.
-use mathlib.Core.Path.{_≡_, refl, sym, ap, _∙_}
+use mathlib.Core.Path.{_≡_, ap}
 use mathlib.Core.Bool.{Bool, true, false, cond, _&&_}
 use lib.IntN.{ℤ, pos, _-ℤ_, _*ℤ_}
 use Rattle.ints.specs.Flags.{both}
@@ -65,11 +65,3 @@ narrowed-beyond q e = simp e
 pub narrowed-out : (q : ℤ) → pointsInLimits (points q) ≡ false → pointsInLimits (points (narrowed q)) ≡ false
 unfolding pointsInLimits inRange
 narrowed-out q e = ap (λ (z : ℤ). pointsInLimits (points z)) (narrowed-beyond q e)
-
--- what is the same for every factor out of limits is the same for a quotient and for its factor
-pub narrowed-alike : {A : Type 0} (given : ℤ → A) (out : A) → ((f : ℤ) → pointsInLimits (points f) ≡ false → given f ≡ out) → (q : ℤ) → given (narrowed q) ≡ given q
-narrowed-alike given out alike q = go (pointsInLimits (points q)) refl
-  where
-    go : (t : Bool) → pointsInLimits (points q) ≡ t → given (narrowed q) ≡ given q
-    go true e = ap given (narrowed-in q e)
-    go false e = alike (narrowed q) (narrowed-out q e) ∙ sym (alike q e)

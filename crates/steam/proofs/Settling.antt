@@ -8,15 +8,15 @@ use Rattle.amounts.specs.Amounts.{cents, points, pointsInLimits}
 use Rattle.postings.specs.Kinds.{settle, reconcile}
 use Rattle.postings.specs.declared.Posting.{Posting}
 use Rattle.postings.specs.declared.Answer.the-variants.{Filed, Done}
-use Rattle.riders.specs.Runs.{run, factorFor, run-out, narrowed, narrowed-alike}
+use Rattle.riders.specs.Runs.{run, factorFor, run-out, narrowed}
+use Rattle.riders.specs.Posts.{StoredAs, narrowed-stored}
 use Rattle.steam_rules.specs.declared.SteamBook.{SteamBook}
 use Rattle.steam_rules.specs.declared.Posted.{Posted}
-use Rattle.steam_rules.specs.Book.{periodOf, reconciliationOf, posted, refused}
+use Rattle.steam_rules.specs.Book.{periodOf, reconciliationOf, posted}
 use Rattle.steam_rules.specs.Settlement.{shareOf, remainderAfter, shifted}
 use Rattle.steam_rules.specs.Limits.{reconciliationInLimits, runsInLimits, inLimits}
 use Rattle.steam_rules.specs.Next.{settledWith, withAccount, filedFactor, settlePosted, reconcilePosted, nextAt, answerAt}
-use Rattle.steam.specs.Stored.{storedOr12, effectAt, StoredAs}
-use Rattle.riders.specs.Posts as posts
+use Rattle.steam.specs.Stored.{effectAt, fits}
 
 -- ---- a factor out of limits makes a book out of limits
 
@@ -33,22 +33,18 @@ unfolding runsInLimits reconciliationInLimits
 reconciliation-out b e = runs-out b (simp (run-out (b .reconciliation .run) e, and-false))
 
 module _ (b : SteamBook) (p : Posting) where
-  refused-12 : (next : Posted) → inLimits (next .book) ≡ false → storedOr12 b next ≡ refused b 12
-  refused-12 = posts.refused-12 inLimits (λ (r : Posted). r .book) refused b
-
   abbrev pub settledAt : ℤ → Posted
   settledAt f =
       posted (Filed (points f))
       (settledWith b (periodOf (pos 0) (pos 0) (remainderAfter (b .period))) (shifted (b .quarters) (b .period .sales)) (run f (shareOf (b .period))))
 
-  pub settled-alike : StoredAs b (settledAt (narrowed (filedFactor b p))) (effectAt settle b p)
+  pub settled-alike : StoredAs fits (settledAt (narrowed (filedFactor b p))) (effectAt settle b p)
   unfolding nextAt answerAt settlePosted
-  settled-alike = narrowed-alike (λ f. storedOr12 b (settledAt f)) (refused b 12) (λ f e. refused-12 (settledAt f) (pending-out _ e)) (filedFactor b p)
+  settled-alike = narrowed-stored fits settledAt (λ f e. pending-out _ e) (filedFactor b p)
 
   abbrev pub reconciledAt : ℤ → Posted
   reconciledAt f = posted Done (withAccount b (cents (pos 0)) (reconciliationOf (run f (b .carried .0)) (natAbs (p .first))))
 
-  pub reconciled-alike : StoredAs b (reconciledAt (narrowed (factorFor (b .carried .0) (p .second)))) (effectAt reconcile b p)
+  pub reconciled-alike : StoredAs fits (reconciledAt (narrowed (factorFor (b .carried .0) (p .second)))) (effectAt reconcile b p)
   unfolding nextAt answerAt reconcilePosted
-  reconciled-alike =
-      narrowed-alike (λ f. storedOr12 b (reconciledAt f)) (refused b 12) (λ f e. refused-12 (reconciledAt f) (reconciliation-out _ e)) (factorFor (b .carried .0) (p .second))
+  reconciled-alike = narrowed-stored fits reconciledAt (λ f e. reconciliation-out _ e) (factorFor (b .carried .0) (p .second))

@@ -14,9 +14,10 @@ ghost use mathlib.Core.Bool.{false};
 ghost use lib.IntN.{_+ℤ_};
 ghost use Rattle.postings.specs.Kinds.{cost, sales, bill, settle, monthEnd, adjust, reconcile, kindOf, unknownKind};
 ghost use Rattle.postings.specs.Ranged.{Ranged};
+ghost use Rattle.riders.specs.Posts.{StoredAs};
 ghost use Rattle.steam_rules.specs.Book.{periodOf};
 ghost use Rattle.steam_rules.specs.Ranges.{PeriodWithin, BookWithin};
-ghost use Rattle.steam.specs.Stored.{effectAt, StoredAs};
+ghost use Rattle.steam.specs.Stored.{effectAt, fits};
 
 fn cost_added(period: Period, posting: Posting) -> Period
     requires { ⌜ PeriodWithin period × Ranged Book.Steam cost posting ⌝ }
@@ -81,7 +82,7 @@ fn post_bill(book: SteamBook, posting: Posting) -> Posted
 // A factor that points have no room for is filed as one out of limits, so the book is stored or refused as the rules' own would be.
 fn post_settlement(book: SteamBook, posting: Posting) -> Posted
     requires { ⌜ BookWithin book × Ranged Book.Steam settle posting ⌝ }
-    ensures { λ r. ⌜ StoredAs book r (effectAt settle book posting) ⌝ }
+    ensures { λ r. ⌜ StoredAs fits r (effectAt settle book posting) ⌝ }
 {
     let past = book.quarters;
     let shareable = steam_settlement::shareable_of(book.period);
@@ -130,7 +131,7 @@ fn post_adjustment(book: SteamBook, posting: Posting) -> Posted
 // The factor is filed as a settlement's is.
 fn post_reconciliation(book: SteamBook, posting: Posting) -> Posted
     requires { ⌜ BookWithin book × Ranged Book.Steam reconcile posting ⌝ }
-    ensures { λ r. ⌜ StoredAs book r (effectAt reconcile book posting) ⌝ }
+    ensures { λ r. ⌜ StoredAs fits r (effectAt reconcile book posting) ⌝ }
 {
     let factor = steam_settlement::filing::factor_for(book.carried, Mmbtu(posting.second));
     let due = book.carried;
@@ -151,7 +152,7 @@ fn post_reconciliation(book: SteamBook, posting: Posting) -> Posted
 
 pub(crate) fn effect(book: SteamBook, posting: Posting) -> Posted
     requires { ⌜ BookWithin book × Ranged Book.Steam (kindOf (posting .kind)) posting × (unknownKind Book.Steam (posting .kind) ≡ false) ⌝ }
-    ensures { λ r. ⌜ StoredAs book r (effectAt (kindOf (posting .kind)) book posting) ⌝ }
+    ensures { λ r. ⌜ StoredAs fits r (effectAt (kindOf (posting .kind)) book posting) ⌝ }
 {
     let kind = posting.kind;
     match kind {

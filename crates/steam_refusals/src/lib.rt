@@ -5,11 +5,11 @@ use steam_rules::Mmbtu;
 use steam_rules::SteamBook;
 ghost use mathlib.Core.Path.{_≡_};
 ghost use mathlib.Core.Bool.{true};
-ghost use Rattle.refusals.specs.Rows.{refusalBy};
+ghost use Rattle.refusals.specs.Rows.{refusalBy, before};
 ghost use Rattle.postings.specs.Kinds.{kindOf};
 ghost use Rattle.postings.specs.Ranged.{Ranged};
 ghost use Rattle.steam_rules.specs.Limits.{inLimits};
-ghost use Rattle.steam_rules.specs.Refusals.{stillRuns, nothingSold, tooSmall, rowsBefore};
+ghost use Rattle.steam_rules.specs.Refusals.{stillRuns, nothingSold, tooSmall, rowsOf};
 
 pub mod calendar;
 pub mod limits;
@@ -56,7 +56,7 @@ fn too_small(posting: Posting) -> bool
 
 // The number of the first row that holds, or 0 where none does.
 pub fn refusal_before(book: SteamBook, posting: Posting) -> u8
-    ensures { λ r. ⌜ r ≡ refusalBy (rowsBefore book posting) ⌝ }
+    ensures { λ r. ⌜ r ≡ refusalBy (before 12 (rowsOf book posting)) ⌝ }
 {
     if postings::unknown_kind(Book::Steam, posting) {
         return 2;

@@ -10,10 +10,12 @@ use Rattle.refusals.specs.Laws.{by-table}
 use Rattle.postings.specs.Kinds.{Kind, cost, sales, bill, settle, monthEnd, adjust, reconcile, unknown, kindOf, tableOf, isNone, unknownKind}
 use Rattle.postings.specs.declared.Book.the-variants.{Steam}
 use Rattle.postings.specs.declared.Posting.{Posting}
+use Rattle.postings.specs.declared.Answer.{Answer}
 use Rattle.postings.specs.declared.Answer.the-variants.{Done}
 use Rattle.riders.specs.Runs.{noRun}
 use Rattle.riders.specs.Months.{forbidden}
-use Rattle.riders.specs.Histories.{wasAccepted, lineAnswered, kept-after}
+use Rattle.riders.specs.Rules.{leftBy, answeredBy, by-rules}
+use Rattle.riders.specs.Histories.{wasAccepted, lineAnswered, entryOf, kept-after}
 use Rattle.riders.specs.Balances.{line-billed, amount-added, cents-moved}
 use Rattle.riders.specs.Waiting.{none-pending}
 use Rattle.steam_rules.proofs.Waiting.{enters, clear, settle-clear, month-turns}
@@ -30,9 +32,9 @@ use Rattle.steam_rules.specs.Settlement.{shareOf, remainderAfter}
 use Rattle.steam_rules.specs.Next.{withPeriod, costPosted, salesPosted, billLine, billPosted, settlePosted, entered, monthLost, reconciled, monthEnded, adjustPosted, reconcilePosted, nextAt, answerAt}
 use Rattle.steam_rules.specs.Limits.{inLimits}
 use Rattle.steam_rules.specs.Opening.{openedOf}
-use Rattle.steam_rules.specs.Refusals.{stillRuns, postOf}
+use Rattle.steam_rules.specs.Refusals.{stillRuns, rules}
 use Rattle.steam_rules.specs.Tally.{Tally, freshTally, withPeriodTally, costCounted, salesCounted, lineCounted, settleCounted, adjustmentCounted, countAt, countOf}
-use Rattle.steam_rules.specs.Claim.{heldBy, Balances, leftBy, answeredBy, NoCentLost}
+use Rattle.steam_rules.specs.Claim.{heldBy, Balances, NoCentLost}
 use Rattle.riders.specs.Sharing as sharing
 use Rattle.riders.specs.Waiting as waiting
 
@@ -75,7 +77,7 @@ lost-period (suc (suc left)) b = refl
 module _ (b : SteamBook) (t : Tally) (p : Posting) (k : Kept b t) where
   -- the tally takes from an answer that it was accepted, and the line
   abbrev Keeps : Kind → Type 0
-  Keeps kind = Kept (nextAt kind b p) (cond (wasAccepted (answerAt kind b p)) (countAt kind t p (lineAnswered (answerAt kind b p))) t)
+  Keeps kind = Kept (nextAt kind b p) (cond (wasAccepted (answerAt kind b p)) (countAt kind t p (lineAnswered kind (answerAt kind b p))) t)
 
   -- cost and sales change the period alone, and not its remainder
   period-keeps :
@@ -177,12 +179,12 @@ module _ (b : SteamBook) (t : Tally) (p : Posting) (k : Kept b t) where
 
 -- ---- a posting, accepted or refused
 
-posting-keeps : (b : SteamBook) (t : Tally) (p : Posting) → Kept b t → Kept (leftBy b p) (countOf t p (answeredBy b p))
-unfolding postOf countOf unknownKind
+posting-keeps : (b : SteamBook) (t : Tally) (p : Posting) → Kept b t → Kept (leftBy rules b p) (countOf t (entryOf p (answeredBy rules b p)))
+unfolding countOf unknownKind
 posting-keeps b t p k =
-    by-table (λ (r : Posted). Kept (r .book) (countOf t p (r .answer))) _ _ _ tt
+    by-rules rules (λ (next : SteamBook) (answer : Answer). Kept next (countOf t (entryOf p answer))) b p tt
     (λ none. kind-keeps b t p k (kindOf (p .kind)) (none .0) (none .1 .1 .0) (none .1 .1 .1 .1 .0) (none .1 .1 .1 .1 .1 .0))
-    (λ n. k)
+    (λ n refused. simp refused k)
 
 -- ---- a list of postings to an opened book
 
@@ -195,11 +197,11 @@ unfolding openedOf
 opened-kept quarters =
     by-table (λ (r : Posted). r .answer ≡ Done → Kept (r .book) freshTally) _ (posted Done (freshOf quarters)) (refused (freshOf (four (mmbtu (pos 0))))) tt
     (λ none done. fresh-kept quarters)
-    (λ n done. absurd (true≢false (sym (ap wasAccepted done))))
+    (λ n refuses done. absurd (true≢false (sym (ap wasAccepted done) ∙ refuses)))
 
 balances : (b : SteamBook) (t : Tally) → Kept b t → Balances b t
 balances b t k = record { cents = k .balances; shares = sharing.shared-near 5000 (pos 80) (k .shares) }
 
 pub no-cent-lost : NoCentLost
 unfolding NoCentLost
-no-cent-lost quarters done postings = balances _ _ (kept-after leftBy answeredBy countOf Kept posting-keeps _ _ postings (opened-kept quarters done))
+no-cent-lost quarters done postings = balances _ _ (kept-after rules countOf Kept posting-keeps _ _ postings (opened-kept quarters done))

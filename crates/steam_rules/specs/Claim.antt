@@ -6,13 +6,12 @@ use lib.IntN.{ℤ, pos, _+ℤ_, _-ℤ_, _*ℤ_}
 use Rattle.ints.specs.Range.{Within}
 use Rattle.amounts.specs.declared.Cents.{Cents}
 use Rattle.postings.specs.declared.Posting.{Posting}
-use Rattle.postings.specs.declared.Answer.{Answer}
 use Rattle.postings.specs.declared.Answer.the-variants.{Done}
 use Rattle.riders.specs.Histories.{bookAfter, entriesOf, tallyAfter}
 use Rattle.steam_rules.specs.declared.Mmbtu.{Mmbtu}
 use Rattle.steam_rules.specs.declared.SteamBook.{SteamBook}
 use Rattle.steam_rules.specs.Opening.{openedOf}
-use Rattle.steam_rules.specs.Refusals.{postOf}
+use Rattle.steam_rules.specs.Refusals.{rules}
 use Rattle.steam_rules.specs.Tally.{Tally, freshTally, countOf}
 
 abbrev pub sumCents : List Cents → ℤ
@@ -28,15 +27,8 @@ pub record Balances (b : SteamBook) (t : Tally) : Type 0 where
   pub cents : t .billed +ℤ heldBy b ≡ t .shares +ℤ t .adjustments
   pub shares : Within 5000 (pos 10000 *ℤ t .shares -ℤ pos 80 *ℤ t .variances)
 
--- the book that a posting leaves, and what it is answered
-abbrev pub leftBy : SteamBook → Posting → SteamBook
-leftBy b p = postOf b p .book
-
-abbrev pub answeredBy : SteamBook → Posting → Answer
-answeredBy b p = postOf b p .answer
-
 unfoldable pub NoCentLost : Type 0
 NoCentLost =
     (quarters : List Mmbtu) → openedOf quarters .answer ≡ Done → (postings : List Posting) →
     let fresh = openedOf quarters .book in
-    Balances (bookAfter leftBy fresh postings) (tallyAfter countOf freshTally (entriesOf leftBy answeredBy fresh postings))
+    Balances (bookAfter rules fresh postings) (tallyAfter countOf freshTally (entriesOf rules fresh postings))

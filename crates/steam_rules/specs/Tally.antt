@@ -1,11 +1,11 @@
--- The tally of the steam book (01, The tally): fed each posting and its answer, never the book. K, B and rem are its own, and stand in a
--- period of its own; V and R follow from them by the book's formulas. The steam book bears no interest.
+-- The tally of the steam book (01, The tally): fed each posting, whether it was accepted and, for a bill, the line answered, never the book.
+-- K, B and rem are its own, and stand in a period of its own; V and R follow from them by the book's formulas. The steam book bears no
+-- interest.
 use mathlib.Core.Bool.{cond}
 use lib.IntN.{ℤ, pos, _+ℤ_}
 use Rattle.postings.specs.Kinds.{Kind, cost, sales, bill, settle, monthEnd, adjust, reconcile, unknown, kindOf}
 use Rattle.postings.specs.declared.Posting.{Posting}
-use Rattle.postings.specs.declared.Answer.{Answer}
-use Rattle.riders.specs.Histories.{wasAccepted, lineAnswered}
+use Rattle.riders.specs.Histories.{Entry}
 use Rattle.steam_rules.specs.declared.Period.{Period}
 use Rattle.steam_rules.specs.Book.{periodOf, noPeriod}
 use Rattle.steam_rules.specs.Settlement.{varianceOf, shareOf, remainderAfter}
@@ -64,5 +64,5 @@ countAt reconcile t p line = t
 countAt unknown t p line = t
 
 -- a refused posting changes nothing
-unfoldable pub countOf : Tally → Posting → Answer → Tally
-countOf t p answer = cond (wasAccepted answer) (countAt (kindOf (p .kind)) t p (lineAnswered answer)) t
+unfoldable pub countOf : Tally → Entry → Tally
+countOf t e = cond (e .accepted) (countAt (kindOf (e .posting .kind)) t (e .posting) (e .line)) t

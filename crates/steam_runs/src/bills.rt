@@ -21,9 +21,6 @@ ghost use Rattle.steam_rules.specs.Fours.{Four};
 ghost use Rattle.steam_rules.specs.Ranges.{PointsWithin, BookWithin};
 ghost use Rattle.steam_runs.specs.Lines.{asFactors, totalsOf, linesOf};
 
-// Points to a cent, since a point is $0.0001.
-const POINTS: i64 = 100;
-
 // Factors together.
 struct Factors(i64);
 
@@ -49,7 +46,7 @@ fn line_at(posting: Posting, factors: Factors) -> Cents
     requires { ⌜ Ranged Book.Steam bill posting × Within 500000 (factors .0) ⌝ }
     ensures { λ r. ⌜ r ≡ cents (round (posting .first *ℤ factors .0) (pos 100)) ⌝ }
 {
-    Cents(rounding::round_div(posting.first * factors.0, POINTS))
+    Cents(rounding::round_div(posting.first * factors.0, Points::TO_A_CENT))
 }
 
 fn with_run(before: Factors, factor: Points) -> Factors

@@ -14,11 +14,11 @@ returns c = let p = c .before .before .put-journal .ensures in
     whole _ _ _ _ (p .0) fits
 
 returns-2 : tie.Need-returns-2
-returns-2 c = short _ _ _ (c .before .length .ensures .0) (c .if2 .taken)
+returns-2 c = short _ _ _ (c .before .printed-length .ensures .0) (c .if2 .taken)
 
 returns-3 : tie.Need-returns-3
 returns-3 c = let p = c .before .before .put-journal2 .ensures in
-    let fits : c .before .before .put-journal2 .result ≤ length (now (c .before .before .before .before .before .before .before .before .before .before .args .buffer)) = omega (arith, p .0 .counted, c .before .before .before .before .before .length .ensures .0, c .before .before .before .before .if2 .left) in
+    let fits : c .before .before .put-journal2 .result ≤ length (now (c .before .before .before .before .before .before .before .before .before .before .args .buffer)) = omega (arith, p .0 .counted, c .before .before .before .before .before .printed-length .ensures .0, c .before .before .before .before .if2 .left) in
     whole _ _ _ _ (p .0) fits
 
 pub write-spec : {M : Type 1} → statement M

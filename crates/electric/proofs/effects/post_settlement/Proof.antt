@@ -11,6 +11,7 @@ use Rattle.ints.specs.Bound.{b-between, fits64}
 use Rattle.postings.specs.declared.Answer.the-variants.{FiledLevels}
 use Rattle.electric_rules.specs.declared.Rates.{Rates}
 use Rattle.riders.specs.declared.Run.{Run}
+use Rattle.riders.specs.Posts.{stored-same, stored-then}
 use Rattle.electric_rules.specs.Book.{posted}
 use Rattle.electric_rules.specs.Levels.{filedLevel}
 use Rattle.electric_rules.specs.Next.{settledWith}
@@ -19,7 +20,7 @@ use Rattle.electric_settlement.specs.Shares.{sharesOf}
 use Rattle.electric_settlement.specs.Filings.{filingOf}
 use Rattle.electric.proofs.Settling.{stored-as}
 use Rattle.electric.proofs.effects.post_settlement.Statement.{statement}
-use Rattle.electric.specs.Stored.{storedOr12}
+use Rattle.electric.specs.Stored.{fits}
 use Rattle.electric.proofs.effects.post_settlement.Tie as tie
 
 rated : (c : tie.After-rates-of) → RatesWithin (c .rates-of .result)
@@ -53,7 +54,7 @@ returns c = let b = c .before .before .before .before .before .before .before .b
     let secondary = c .before .before .before .before .filed-level .ensures ∙ ap (λ (r : Run). filedLevel r (b .secondary)) on-secondary in
     let primary = c .before .before .before .filed-level2 .ensures ∙ ap (λ (r : Run). filedLevel r (b .primary)) on-primary in
     let next = c .before .before .settled-with .ensures ∙ (λ i. settledWith b (shares i .remainder) (secondary i) (primary i)) in
-    (λ i. storedOr12 b (posted (FiledLevels (on-secondary i .factor) (on-primary i .factor)) (next i))) ∙ stored-as b p
+    stored-then fits (stored-same fits (λ i. posted (FiledLevels (on-secondary i .factor) (on-primary i .factor)) (next i))) (stored-as b p)
 
 pub post-settlement-spec : {M : Type 1} → statement M
 post-settlement-spec =

@@ -3,11 +3,11 @@ use native.Mathlib.Omega.{arith}
 use borrow.Author.Needs.{needs}
 use Rattle.journal.proofs.Storing.{puts-then}
 use Rattle.journal.proofs.lines.put_line.Statement.{statement}
-use Rattle.journal.specs.Lines.{lineOf}
+use Rattle.journal.specs.Lines.{recordLine}
 use Rattle.journal.proofs.lines.put_line.Tie as tie
 
 returns : tie.Need-returns
-unfolding lineOf
+unfolding recordLine
 returns c =
     let head = c .before .before .before .before .before .before .before .before .before .before .before .put-head .ensures in
     let answer = c .before .before .before .before .before .before .before .put-answer .ensures in

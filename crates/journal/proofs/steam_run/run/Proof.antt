@@ -4,7 +4,7 @@ use Prim.Native.Nat.{_-_}
 use native.Mathlib.Omega.{arith}
 use lib.ListN.{length}
 use Rattle.postings.specs.declared.Book.the-variants.{Steam}
-use Rattle.steam_rules.specs.Claim.{answeredBy, leftBy}
+use Rattle.steam_rules.specs.Refusals.{rules}
 use Rattle.steam_rules.specs.declared.Posted.{Posted}
 use Rattle.journal.proofs.Running.{read-on, lines, Kept, begun, ended, stopped, again}
 use Rattle.journal.proofs.steam_run.run.Statement.{statement}
@@ -13,13 +13,13 @@ use Rattle.journal.proofs.steam_run.run.Tie as tie
 
 abbrev Inv-loop : tie.InvT-loop
 Inv-loop input buffer₀ book₀ place₀ number₀ used₀ buffer book place number used =
-    Kept Steam answeredBy leftBy input (lines Steam answeredBy leftBy input (length input) book₀ place₀ 1) buffer₀ book place number used buffer
+    Kept Steam rules input (lines Steam rules input (length input) book₀ place₀ 1) buffer₀ book place number used buffer
 
 abbrev μ-loop : tie.MeasureT-loop
 μ-loop input buffer₀ book₀ place₀ number₀ used₀ buffer book place number used = length input - place
 
 loop-holds : tie.Need-loop-holds Inv-loop μ-loop
-loop-holds c = begun _ _ _ _ _ _ _ (omega arith) (c .before .before .pre .0)
+loop-holds c = begun _ _ _ _ _ _ (omega arith) (c .before .before .pre .0)
 
 put-line-requires : tie.Need-put-line-requires Inv-loop μ-loop
 put-line-requires c κs = let k = c .before .before .before .before .before .loop .inv in
@@ -32,7 +32,7 @@ returns : tie.Need-returns Inv-loop μ-loop
 unfolding steamLines
 returns c = let p = c .before .before .put-line .ensures in
     let k = c .before .before .before .before .before .before .before .before .loop .inv in (
-      stopped _ _ _ _ k (c .before .before .before .before .before .before .read-record .result) (c .before .before .before .before .before .before .read-record .ensures) (c .before .before .before .before .before .before .before .loop-test .taken) _ _ (c .before .before .before .before .if1 .taken) (p .0),
+      stopped _ _ _ k (c .before .before .before .before .before .before .read-record .result) (c .before .before .before .before .before .before .read-record .ensures) (c .before .before .before .before .before .before .before .loop-test .taken) _ _ (c .before .before .before .before .if1 .taken) (p .0),
       omega (arith, p .1, k .few, k .within),
     )
 
@@ -52,7 +52,7 @@ loop-again : tie.Need-loop-again Inv-loop μ-loop
 loop-again c =
     let p = c .before .before .before .put-line2 in
     let posted = c .before .before .before .before .before .post .ensures in
-    again _ _ _ _ (c .before .before .before .before .before .before .before .before .before .before .before .loop .inv) (c .before .before .before .before .before .before .before .before .before .read-record .result) (c .before .before .before .before .before .before .before .before .before .read-record .ensures) (c .before .before .before .before .before .before .before .before .before .before .loop-test .taken) _ _ (c .before .before .before .before .before .before .before .if1 .left) _ (ap (λ (r : Posted). r .answer) posted) _ (ap (λ (r : Posted). r .book) posted) (p .ensures .0) (p .ensures .1) (p .kept .0)
+    again _ _ _ (c .before .before .before .before .before .before .before .before .before .before .before .loop .inv) (c .before .before .before .before .before .before .before .before .before .read-record .result) (c .before .before .before .before .before .before .before .before .before .read-record .ensures) (c .before .before .before .before .before .before .before .before .before .before .loop-test .taken) _ _ (c .before .before .before .before .before .before .before .if1 .left) _ (ap (λ (r : Posted). r .answer) posted) _ (ap (λ (r : Posted). r .book) posted) (p .ensures .0) (p .ensures .1) (p .kept .0)
 
 same-length-2 : tie.Need-same-length-2 Inv-loop μ-loop
 same-length-2 c = c .before .loop .inv .long
@@ -60,7 +60,7 @@ same-length-2 c = c .before .loop .inv .long
 returns-2 : tie.Need-returns-2 Inv-loop μ-loop
 unfolding steamLines
 returns-2 c = let k = c .before .loop .inv in
-    (ended _ _ _ _ k (c .loop-test .left), omega (arith, k .few, k .within))
+    (ended _ _ _ k (c .loop-test .left), omega (arith, k .few, k .within))
 
 pub run-spec : {M : Type 1} → statement M
 run-spec =

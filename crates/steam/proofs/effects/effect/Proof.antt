@@ -1,12 +1,13 @@
 -- `effects::effect` is the effect of the posting's kind, each arm that of its own. Assumes nothing.
-use mathlib.Core.Path.{_≡_, ap}
+use mathlib.Core.Path.{_≡_}
 use borrow.Author.Needs.{needs}
 use Rattle.postings.specs.Kinds.{kindOf}
 use Rattle.postings.specs.Ranged.{ranged-as}
 use Rattle.postings.specs.declared.Book.the-variants.{Steam}
+use Rattle.riders.specs.Posts.{stored-same}
 use Rattle.steam.proofs.ByKind.{stored-as-kind, is-reconciliation}
 use Rattle.steam.proofs.effects.effect.Statement.{statement}
-use Rattle.steam.specs.Stored.{storedOr12}
+use Rattle.steam.specs.Stored.{fits}
 use Rattle.steam.proofs.effects.effect.Tie as tie
 
 seven : (c : tie.At-match-rest) → c .before .args .posting .kind ≡ 7
@@ -38,31 +39,31 @@ post-reconciliation-requires c κs = (c .before .pre .0, ranged-as Steam (c .bef
 
 returns : tie.Need-returns
 unfolding kindOf
-returns c = stored-as-kind (c .before .before .args .posting) (c .before .match .keys1) (c .before .before .args .book) _ (ap (storedOr12 (c .before .before .args .book)) (c .post-cost .ensures))
+returns c = let s = c .before .before .args in stored-as-kind (s .book) (s .posting) (c .before .match .keys1) (stored-same fits (c .post-cost .ensures))
 
 returns-2 : tie.Need-returns-2
 unfolding kindOf
-returns-2 c = stored-as-kind (c .before .before .args .posting) (c .before .match .keys2) (c .before .before .args .book) _ (ap (storedOr12 (c .before .before .args .book)) (c .post-sales .ensures))
+returns-2 c = let s = c .before .before .args in stored-as-kind (s .book) (s .posting) (c .before .match .keys2) (stored-same fits (c .post-sales .ensures))
 
 returns-3 : tie.Need-returns-3
 unfolding kindOf
-returns-3 c = stored-as-kind (c .before .before .args .posting) (c .before .match .keys3) (c .before .before .args .book) _ (ap (storedOr12 (c .before .before .args .book)) (c .post-bill .ensures))
+returns-3 c = let s = c .before .before .args in stored-as-kind (s .book) (s .posting) (c .before .match .keys3) (stored-same fits (c .post-bill .ensures))
 
 returns-4 : tie.Need-returns-4
 unfolding kindOf
-returns-4 c = stored-as-kind (c .before .before .args .posting) (c .before .match .keys4) (c .before .before .args .book) _ (c .post-settlement .ensures)
+returns-4 c = let s = c .before .before .args in stored-as-kind (s .book) (s .posting) (c .before .match .keys4) (c .post-settlement .ensures)
 
 returns-5 : tie.Need-returns-5
 unfolding kindOf
-returns-5 c = stored-as-kind (c .before .before .args .posting) (c .before .match .keys5) (c .before .before .args .book) _ (ap (storedOr12 (c .before .before .args .book)) (c .post-month-end .ensures))
+returns-5 c = let s = c .before .before .args in stored-as-kind (s .book) (s .posting) (c .before .match .keys5) (stored-same fits (c .post-month-end .ensures))
 
 returns-6 : tie.Need-returns-6
 unfolding kindOf
-returns-6 c = stored-as-kind (c .before .before .args .posting) (c .before .match .keys6) (c .before .before .args .book) _ (ap (storedOr12 (c .before .before .args .book)) (c .post-adjustment .ensures))
+returns-6 c = let s = c .before .before .args in stored-as-kind (s .book) (s .posting) (c .before .match .keys6) (stored-same fits (c .post-adjustment .ensures))
 
 returns-7 : tie.Need-returns-7
 unfolding kindOf
-returns-7 c = stored-as-kind (c .before .before .args .posting) (seven (c .before)) (c .before .before .args .book) _ (c .post-reconciliation .ensures)
+returns-7 c = let s = c .before .before .args in stored-as-kind (s .book) (s .posting) (seven (c .before)) (c .post-reconciliation .ensures)
 
 pub effect-spec : {M : Type 1} → statement M
 effect-spec =

@@ -10,12 +10,13 @@ use Rattle.ints.specs.Bound.{b-between, fits64}
 use Rattle.amounts.specs.Amounts.{cents, points}
 use Rattle.postings.specs.declared.Answer.the-variants.{Done}
 use Rattle.riders.specs.Runs.{factorFor, narrowed}
+use Rattle.riders.specs.Posts.{stored-same, stored-then}
 use Rattle.steam_rules.specs.Book.{reconciliationOf, posted}
 use Rattle.steam_rules.specs.Next.{withAccount}
 use Rattle.steam.proofs.Parts.{months-fit, months-read}
 use Rattle.steam.proofs.Settling.{reconciled-alike}
 use Rattle.steam.proofs.effects.post_reconciliation.Statement.{statement}
-use Rattle.steam.specs.Stored.{storedOr12}
+use Rattle.steam.specs.Stored.{fits}
 use Rattle.steam.proofs.effects.post_reconciliation.Tie as tie
 
 factor-for-requires : tie.Need-factor-for-requires
@@ -33,8 +34,7 @@ returns c = let b = c .before .before .before .before .before .args .book in
     let f : SFits w64 (p .second) = fits64 (b-between (w .1 .1 .0)) tt in
     let factor = c .before .before .before .factor-for .ensures ∙ (λ i. points (narrowed (factorFor (b .carried .0) (toZ-ofZ f i)))) in
     let months = months-read (p .first) (w .1 .0) in
-    (λ i. storedOr12 b (posted Done (withAccount b (cents (pos 0)) (reconciliationOf (record { factor = factor i; due = b .carried }) (months i)))))
-    ∙ reconciled-alike b p
+    stored-then fits (stored-same fits (λ i. posted Done (withAccount b (cents (pos 0)) (reconciliationOf (record { factor = factor i; due = b .carried }) (months i))))) (reconciled-alike b p)
 
 pub post-reconciliation-spec : {M : Type 1} → statement M
 post-reconciliation-spec = tie.close (tie.spec factor-for-requires cast-t10 returns)

@@ -9,6 +9,7 @@ use Rattle.ints.specs.Range.{Within, between-same}
 use Rattle.amounts.specs.Amounts.{points}
 use Rattle.postings.specs.declared.Answer.the-variants.{Filed}
 use Rattle.riders.specs.Runs.{factorFor, narrowed}
+use Rattle.riders.specs.Posts.{stored-same, stored-then}
 use Rattle.steam_rules.specs.Book.{mmbtu, posted, same-mmbtu}
 use Rattle.steam_rules.specs.Settlement.{determinantsOf}
 use Rattle.steam_rules.specs.Next.{settledWith, filedFactor}
@@ -17,7 +18,7 @@ use Rattle.steam_rules.specs.Sizes.{share-within}
 use Rattle.steam_settlement.specs.Determinants.{determinantsOr0, determinantsOr0-is}
 use Rattle.steam.proofs.Settling.{settled-alike}
 use Rattle.steam.proofs.effects.post_settlement.Statement.{statement}
-use Rattle.steam.specs.Stored.{storedOr12}
+use Rattle.steam.specs.Stored.{fits}
 use Rattle.steam.proofs.effects.post_settlement.Tie as tie
 
 -- the determinants are the rules', since all amounts are within their limits
@@ -43,7 +44,7 @@ returns c = let b = c .before .before .before .before .before .before .before .b
     let share = c .before .before .before .before .before .before .share-of .ensures in
     let factor = c .before .before .before .factor-for .ensures ∙ (λ i. points (narrowed (factorFor (share i .0) (determined (c .before .before .before .before) i .0)))) in
     let next = c .settled-with .ensures ∙ (λ i. settledWith b (c .before .before .period-after .ensures i) (c .before .shifted .ensures i) (record { factor = factor i; due = share i })) in
-    (λ i. storedOr12 b (posted (Filed (factor i)) (next i))) ∙ settled-alike b p
+    stored-then fits (stored-same fits (λ i. posted (Filed (factor i)) (next i))) (settled-alike b p)
 
 pub post-settlement-spec : {M : Type 1} → statement M
 post-settlement-spec =
