@@ -10,14 +10,14 @@ use lib.IntN.{ℤ}
 use borrow.Author.Tests.{not-false}
 use Rattle.refusals.specs.Rows.{Row, row, refusalBy, before}
 use Rattle.refusals.specs.Laws.{numbered, none-holds, at-row, past-row, decided-earlier, decided-later, gives-asked, gives-refusal}
-use Rattle.amounts.specs.Amounts.{points, pointsInLimits}
 use Rattle.postings.specs.Kinds.{kindOf, unknownKind, strayNumber, outOfRange}
 use Rattle.postings.specs.Ranged.{Ranged, none-out-of-range}
 use Rattle.postings.specs.declared.Book.{Book}
 use Rattle.postings.specs.declared.Posting.{Posting}
 use Rattle.postings.specs.declared.Answer.{Answer}
 use Rattle.postings.specs.declared.Answer.the-variants.{Refused}
-use Rattle.riders.specs.Runs.{narrowed, narrowed-in, narrowed-out}
+use Rattle.riders.specs.declared.Run.{Run}
+use Rattle.riders.specs.Runs.{run, factorFor, runInLimits, filedRun, filed-in, filed-out}
 use Rattle.riders.specs.Rules.{Rules, answeredBy, leftBy}
 
 -- ---- by the table: a row before 12 refuses, or 12 does, or the next book is stored
@@ -80,12 +80,12 @@ module _ {Posted : Type 0} (fits : Posted → Bool) where
   pub stored-then : {a b c : Posted} → StoredAs fits a b → StoredAs fits b c → StoredAs fits a c
   stored-then e f = record { alike = e .alike ∙ f .alike; same = (λ h. e .same h ∙ f .same (sym (e .alike) ∙ h)) }
 
-  -- a factor that the code has narrowed is stored or refused as its quotient is, where no factor out of limits is stored
-  pub narrowed-stored : (given : ℤ → Posted) → ((f : ℤ) → pointsInLimits (points f) ≡ false → fits (given f) ≡ false) → (q : ℤ) → StoredAs fits (given (narrowed q)) (given q)
-  narrowed-stored given out q = go (pointsInLimits (points q)) refl
+  -- what the code files is stored or refused as the rules' own run is, where no run out of limits is stored
+  pub filed-stored : (given : Run → Posted) → ((r : Run) → runInLimits r ≡ false → fits (given r) ≡ false) → (owed sales : ℤ) → StoredAs fits (given (filedRun owed sales)) (given (run (factorFor owed sales) owed))
+  filed-stored given out owed sales = go (runInLimits (run (factorFor owed sales) owed)) refl
     where
-      go : (t : Bool) → pointsInLimits (points q) ≡ t → StoredAs fits (given (narrowed q)) (given q)
-      go true e = stored-same (ap given (narrowed-in q e))
+      go : (t : Bool) → runInLimits (run (factorFor owed sales) owed) ≡ t → StoredAs fits (given (filedRun owed sales)) (given (run (factorFor owed sales) owed))
+      go true e = stored-same (ap given (filed-in owed sales e))
       go false e =
-          let o = out (narrowed q) (narrowed-out q e) in
-          record { alike = o ∙ sym (out q e); same = (λ h. absurd (true≢false (sym h ∙ o))) }
+          let o = out (filedRun owed sales) (filed-out owed sales e) in
+          record { alike = o ∙ sym (out (run (factorFor owed sales) owed) e); same = (λ h. absurd (true≢false (sym h ∙ o))) }

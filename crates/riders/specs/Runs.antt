@@ -1,7 +1,7 @@
 -- A run (01, Electric book and Steam book): a factor, the cents that are due under it, and what it may store; and a factor as the code passes
 -- it on. Laws: what the limits tell. Assumes nothing.
-use mathlib.Core.Path.{_≡_, ap}
-use mathlib.Core.Bool.{Bool, true, false, cond, _&&_}
+use mathlib.Core.Path.{_≡_, refl, ap, _∙_}
+use mathlib.Core.Bool.{Bool, true, false, cond, _&&_, true≢false}
 use lib.IntN.{ℤ, pos, _-ℤ_, _*ℤ_}
 use Rattle.ints.specs.Flags.{both}
 use Rattle.ints.specs.Range.{Within, inRange}
@@ -48,11 +48,14 @@ run-out r e = simp e
 pub same-run : {f g : Points} {a b : ℤ} → f ≡ g → a ≡ b → _≡_ {A = Run} (record { factor = f; due = cents a }) (record { factor = g; due = cents b })
 same-run e h = λ i. record { factor = e i; due = cents (h i) }
 
--- ---- a factor as the code passes it on: one out of limits becomes another that is out of limits too, since points have no room for every
--- quotient
+-- ---- what is filed, as the code passes it on: points have no room for every quotient, so a factor out of limits becomes 100,000, which is
+-- out of limits too; and so does that of cents out of limits, which no book stores either
 
 unfoldable pub narrowed : ℤ → ℤ
 narrowed quotient = cond (pointsInLimits (points quotient)) quotient (pos 100000)
+
+unfoldable pub filedRun : ℤ → ℤ → Run
+filedRun owed sales = run (cond (centsInLimits (cents owed)) (narrowed (factorFor owed sales)) (pos 100000)) owed
 
 pub narrowed-in : (q : ℤ) → pointsInLimits (points q) ≡ true → narrowed q ≡ q
 unfolding narrowed
@@ -62,6 +65,18 @@ pub narrowed-beyond : (q : ℤ) → pointsInLimits (points q) ≡ false → narr
 unfolding narrowed
 narrowed-beyond q e = simp e
 
-pub narrowed-out : (q : ℤ) → pointsInLimits (points q) ≡ false → pointsInLimits (points (narrowed q)) ≡ false
-unfolding pointsInLimits inRange
-narrowed-out q e = ap (λ (z : ℤ). pointsInLimits (points z)) (narrowed-beyond q e)
+module _ (owed sales : ℤ) where
+  pub filed-in : runInLimits (run (factorFor owed sales) owed) ≡ true → filedRun owed sales ≡ run (factorFor owed sales) owed
+  unfolding filedRun runInLimits
+  filed-in e =
+      let p = both (pointsInLimits (points (factorFor owed sales))) _ e in
+      λ i. run ((ap (λ (t : Bool). cond t (narrowed (factorFor owed sales)) (pos 100000)) (p .1) ∙ narrowed-in _ (p .0)) i) owed
+
+  pub filed-out : runInLimits (run (factorFor owed sales) owed) ≡ false → runInLimits (filedRun owed sales) ≡ false
+  unfolding filedRun runInLimits narrowed pointsInLimits inRange
+  filed-out e = go (centsInLimits (cents owed)) (pointsInLimits (points (factorFor owed sales))) e
+    where
+      go : (c p : Bool) → p && c ≡ false → pointsInLimits (points (cond c (cond p (factorFor owed sales) (pos 100000)) (pos 100000))) && c ≡ false
+      go true true h = absurd (true≢false h)
+      go true false h = refl
+      go false p h = refl

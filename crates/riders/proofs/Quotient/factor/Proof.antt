@@ -39,4 +39,4 @@ returns-2 c = let q = c .before .before .before .args .self .0 in
 pub factor-spec : {M : Type 1} → statement M
 factor-spec =
     tie.close
-    (tie.spec (λ c. search needs) (λ c. search needs) (λ c κs. search needs) cast-t5 returns (λ c. search needs) returns-2)
+    (tie.spec (λ c. search needs) (λ c. search needs) (λ c κs. search needs) cast-t5 returns returns-2)
