@@ -3,10 +3,11 @@
 use mathlib.Core.Path.{_≡_, refl, sym, ap, subst, _∙_}
 use mathlib.Core.Bool.{Bool, true, false, cond, not, true≢false}
 use Prim.Native.Nat.{ℕ}
-use lib.Dec.{leb}
-use lib.IntN.{ℤ, pos, _+ℤ_}
+use lib.Dec.{leb, eqb}
+use lib.IntN.{ℤ, pos, _+ℤ_, _-ℤ_, _*ℤ_}
 use borrow.Author.Tests.{not-false}
 use Rattle.ints.specs.Flags.{both}
+use Rattle.ints.specs.Range.{Within}
 use Rattle.refusals.specs.Laws.{by-table}
 use Rattle.postings.specs.Kinds.{Kind, cost, sales, bill, settle, monthEnd, adjust, reconcile, unknown, kindOf, tableOf, isNone, unknownKind}
 use Rattle.postings.specs.declared.Book.the-variants.{Electric}
@@ -27,7 +28,7 @@ use Rattle.electric_rules.specs.declared.ElectricBook.{ElectricBook}
 use Rattle.electric_rules.specs.declared.Posted.{Posted}
 use Rattle.electric_rules.specs.Book.{salesOf, periodOf, posted, refused, freshLevel, freshOf, openedOf}
 use Rattle.electric_rules.specs.Calendar.{settles, entering}
-use Rattle.electric_rules.specs.Rates.{ratesOf}
+use Rattle.electric_rules.specs.Rates.{ratesLP, ratesMPS, ratesOf}
 use Rattle.electric_rules.specs.Settlement.{remainderAfter, secondaryShare, primaryShare}
 use Rattle.electric_rules.specs.Levels.{heldBy}
 use Rattle.electric_rules.specs.Next.{withPeriod, withLevels, isSecondary, costPosted, salesPosted, billPosted, settlePosted, monthEnded, adjustPosted, nextAt, lineAnswer, filedAnswer, interestAnswer, answerAt}
@@ -179,16 +180,25 @@ opened-kept division =
     (λ none done. fresh-kept division)
     (λ n refuses done. absurd (true≢false (sym (ap wasAccepted done) ∙ refuses)))
 
-balances : (rates : Rates) (b : ElectricBook) (t : Tally) → Kept rates b t → Balances rates b t
-balances rates b t k =
+-- the customers' percentage of either division
+percentage-95 : (division : ℕ) → ratesOf division .percentage ≡ pos 95
+unfolding ratesOf
+percentage-95 division = go (eqb division 0)
+  where
+    go : (t : Bool) → cond t ratesLP ratesMPS .percentage ≡ pos 95
+    go true = refl
+    go false = refl
+
+balances : (rates : Rates) → rates .percentage ≡ pos 95 → (b : ElectricBook) (t : Tally) → Kept rates b t → Balances b t
+balances rates e b t k =
     record {
       secondary = k .secondary .balances;
       primary = k .primary .balances;
-      shares = sharing.shared-near 50000 (rates .percentage) (k .shares);
+      shares = subst (λ (percentage : ℤ). Within 50000 (pos 100000 *ℤ (t .secondary .shares +ℤ t .primary .shares) -ℤ percentage *ℤ t .variances)) e (sharing.shared-near 50000 (rates .percentage) (k .shares));
     }
 
 pub no-cent-lost : NoCentLost
 unfolding NoCentLost
 no-cent-lost division done postings =
     let rates = ratesOf division in
-    balances rates _ _ (kept-after rules (countOf rates) (Kept rates) (posting-keeps rates) _ _ postings (opened-kept division done))
+    balances rates (percentage-95 division) _ _ (kept-after rules (countOf rates) (Kept rates) (posting-keeps rates) _ _ postings (opened-kept division done))

@@ -5,3 +5,4 @@ pub mod Shares
 pub mod LevelSteps
 pub mod Conservation
 pub mod Refused
+pub mod Within

@@ -5,3 +5,4 @@ pub mod Held
 pub mod Shares
 pub mod Conservation
 pub mod Refused
+pub mod Within

@@ -1,6 +1,7 @@
--- No cent is lost (01, The tally), as one statement over every accepted opening of a steam book and every list of postings, refused and
--- unknown ones included. Proved in proofs/Conservation.antt.
+-- What holds of every history of a steam book, over every list of postings, refused and unknown ones included: no cent is lost (01, The
+-- tally; proved in proofs/Conservation.antt), and the book stays within its limits (proved in proofs/Within.antt).
 use mathlib.Core.Path.{_≡_}
+use mathlib.Core.Bool.{true}
 use mathlib.Core.List.{List, [], _∷_}
 use lib.IntN.{ℤ, pos, _+ℤ_, _-ℤ_, _*ℤ_}
 use Rattle.ints.specs.Range.{Within}
@@ -10,6 +11,7 @@ use Rattle.postings.specs.declared.Answer.the-variants.{Done}
 use Rattle.riders.specs.Histories.{bookAfter, entriesOf, tallyAfter}
 use Rattle.steam_rules.specs.declared.Mmbtu.{Mmbtu}
 use Rattle.steam_rules.specs.declared.SteamBook.{SteamBook}
+use Rattle.steam_rules.specs.Limits.{inLimits}
 use Rattle.steam_rules.specs.Opening.{openedOf}
 use Rattle.steam_rules.specs.Refusals.{rules}
 use Rattle.steam_rules.specs.Tally.{Tally, freshTally, countOf}
@@ -27,8 +29,13 @@ pub record Balances (b : SteamBook) (t : Tally) : Type 0 where
   pub cents : t .billed +ℤ heldBy b ≡ t .shares +ℤ t .adjustments
   pub shares : Within 5000 (pos 10000 *ℤ t .shares -ℤ pos 80 *ℤ t .variances)
 
+-- after every list of postings to the fresh book of an accepted opening
 unfoldable pub NoCentLost : Type 0
 NoCentLost =
     (quarters : List Mmbtu) → openedOf quarters .answer ≡ Done → (postings : List Posting) →
     let fresh = openedOf quarters .book in
     Balances (bookAfter rules fresh postings) (tallyAfter countOf freshTally (entriesOf rules fresh postings))
+
+-- a book that was opened is never out of its limits, so that row 6 never refuses a posting to it
+unfoldable pub NeverOutOfLimits : Type 0
+NeverOutOfLimits = (quarters : List Mmbtu) (postings : List Posting) → inLimits (bookAfter rules (openedOf quarters .book) postings) ≡ true
