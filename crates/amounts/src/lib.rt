@@ -17,8 +17,10 @@ pub struct Cents(pub i64);
 pub struct Points(pub i32);
 
 impl Cents {
+    // The least that a book may store.
     pub const LEAST: i64 = -1_000_000_000_000;
 
+    // The most that a book may store.
     pub const MOST: i64 = 1_000_000_000_000;
 
     // Whether a book may store the amount.
@@ -45,8 +47,10 @@ impl Cents {
 }
 
 impl Points {
+    // The least that a book may store.
     pub const LEAST: i32 = -99_999;
 
+    // The most that a book may store.
     pub const MOST: i32 = 99_999;
 
     // Points to a cent, since a point is $0.0001.

@@ -12,15 +12,23 @@ use Rattle.electric_rules.specs.Settlement.{varianceOf, remainderAfter, 
 use Rattle.electric_rules.specs.Levels.{interestOn}
 use Rattle.electric_rules.specs.Next.{isSecondary}
 
+-- what is counted at a level, in cents
 pub record LevelTally : Type 0 where
+  -- lines of bills
   pub billed : ℤ
+  -- customer shares of settled periods
   pub shares : ℤ
+  -- interest of all months
   pub interest : ℤ
+  -- accepted adjustments
   pub adjustments : ℤ
+  -- new interest: that of the months since the last settlement
   pub newInterest : ℤ
 
 pub record Tally : Type 0 where
+  -- K, Ss, Sp and rem
   pub period : Period
+  -- the sum of settled variances: V of each settled period
   pub variances : ℤ
   pub secondary : LevelTally
   pub primary : LevelTally

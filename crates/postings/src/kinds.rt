@@ -6,8 +6,7 @@ ghost use Prim.Native.Nat.{_<_};
 ghost use Rattle.postings.specs.Kinds.{numbersOf, standing};
 ghost use Rattle.postings.specs.BitMaps.{bitMapOf, bitOf, mapsOf, packedOf};
 
-// How many bit maps the records of a kind may have, which is 2 to the number of its fields; 0 where the book has no such kind. A byte
-// a kind, that of kind 0 rightmost, since an array would be built anew at every call.
+// What `maps_of` gives for the electric book: a byte a kind, that of kind 0 rightmost, since an array would be built anew at every call.
 const ELECTRIC_MAPS: u64 = 0x00_04_02_04_04_04_08_00;
 
 // The same for the steam book.
@@ -22,6 +21,7 @@ fn packed_of(book: Book) -> u64
     }
 }
 
+// How many bit maps the records of a kind may have: 2 to the number of its fields, 0 where the book has no such kind.
 pub fn maps_of(book: Book, kind: u8) -> u8
     ensures { λ r. ⌜ r ≡ mapsOf book kind ⌝ }
 {

@@ -4,6 +4,7 @@ ghost use mathlib.Core.Path.{_≡_};
 ghost use Rattle.postings.specs.Kinds.{kindOf};
 ghost use Rattle.riders.specs.Months.{monthAfter, monthInLimits, forbidden};
 
+// The next month; from December on it is January.
 pub fn month_after(month: u8) -> u8
     ensures { λ r. ⌜ r ≡ monthAfter month ⌝ }
 {

@@ -11,10 +11,15 @@ use Rattle.steam_rules.specs.Book.{periodOf, noPeriod}
 use Rattle.steam_rules.specs.Settlement.{varianceOf, shareOf, remainderAfter}
 
 pub record Tally : Type 0 where
+  -- K, B and rem
   pub period : Period
+  -- the sum of settled variances: V of each settled quarter
   pub variances : ℤ
+  -- lines of bills, in cents as what follows
   pub billed : ℤ
+  -- customer shares of settled quarters
   pub shares : ℤ
+  -- accepted adjustments
   pub adjustments : ℤ
 
 -- all start at zero
