@@ -1,9 +1,9 @@
--- `electric_refusals::limits::level_in_limits` tests the limits of a level: of each of its parts. Assumes nothing.
+-- `Level::in_limits` tests the limits of a level: of each of its parts. Assumes nothing.
 use mathlib.Core.Bool.{_&&_}
 use borrow.Author.Needs.{needs}
 use Rattle.electric_rules.specs.Limits.{levelInLimits}
-use Rattle.electric_refusals.proofs.limits.level_in_limits.Statement.{statement}
-use Rattle.electric_refusals.proofs.limits.level_in_limits.Tie as tie
+use Rattle.electric_rules.proofs.Level.in_limits.Statement.{statement}
+use Rattle.electric_rules.proofs.Level.in_limits.Tie as tie
 
 returns : tie.Need-returns
 unfolding levelInLimits
@@ -11,8 +11,8 @@ returns c = λ i.
     c .before .before .before .before .in-limits .ensures i && (c .before .before .before .in-limits2 .ensures i
     && (c .before .before .in-limits3 .ensures i && (c .before .in-limits4 .ensures i && c .in-limits5 .ensures i)))
 
-pub level-in-limits-spec : {M : Type 1} → statement M
-level-in-limits-spec =
+pub in-limits-spec : {M : Type 1} → statement M
+in-limits-spec =
     tie.close
     (tie.spec
     (λ c κs. search needs)
