@@ -1,4 +1,4 @@
--- `electric_levels::interest` is the month's interest on the balance that bears it. Assumes nothing.
+-- `levels::interest` is the month's interest on the balance that bears it. Assumes nothing.
 use mathlib.Core.Path.{_≡_, _∙_}
 use lib.IntN.{pos, _*ℤ_}
 use mir.Syntax.{w64}
@@ -11,9 +11,9 @@ use Rattle.rounding.specs.Round.{round}
 use Rattle.rounding.specs.Laws.{rounds}
 use Rattle.amounts.specs.Amounts.{same-cents}
 use Rattle.electric_rules.specs.Levels.{interestOn}
-use Rattle.electric_levels.proofs.Bills.{bearing-within}
-use Rattle.electric_levels.proofs.interest.Statement.{statement}
-use Rattle.electric_levels.proofs.interest.Tie as tie
+use Rattle.electric.proofs.Bills.{bearing-within}
+use Rattle.electric.proofs.levels.interest.Statement.{statement}
+use Rattle.electric.proofs.levels.interest.Tie as tie
 
 mul-round-div : tie.Need-mul-round-div
 mul-round-div c = let w = c .before .before .before .before .before .pre in

@@ -1,4 +1,4 @@
--- `electric_levels::line` is the line of both factors together. Assumes nothing.
+-- `levels::line` is the line of both factors together. Assumes nothing.
 use mathlib.Core.Path.{_≡_, _∙_}
 use lib.IntN.{pos, _+ℤ_, _*ℤ_}
 use mir.Syntax.{w64}
@@ -9,9 +9,9 @@ use Rattle.ints.specs.Exact.{exacts, e-eq, exact}
 use Rattle.rounding.specs.Laws.{rounds}
 use Rattle.ints.specs.Bound.{bounds, fits64}
 use Rattle.amounts.specs.Amounts.{same-cents}
-use Rattle.electric_levels.proofs.Bills.{line-is}
-use Rattle.electric_levels.proofs.line.Statement.{statement}
-use Rattle.electric_levels.proofs.line.Tie as tie
+use Rattle.electric.proofs.Bills.{line-is}
+use Rattle.electric.proofs.levels.line.Statement.{statement}
+use Rattle.electric.proofs.levels.line.Tie as tie
 
 cast-round-div : tie.Need-cast-round-div
 cast-round-div c = fits64 (search bounds depth 30) tt

@@ -1,10 +1,10 @@
--- `electric_levels::adjusted` adds the amount to the carried cents. Assumes nothing.
+-- `levels::adjusted` adds the amount to the carried cents. Assumes nothing.
 use Rattle.ints.specs.Exact.{exacts, exact}
 use Rattle.electric_rules.specs.Levels.{adjustedLevel}
 use Rattle.ints.specs.Bound.{bounds, fits64}
-use Rattle.electric_levels.proofs.Parts.{same-carried}
-use Rattle.electric_levels.proofs.adjusted.Statement.{statement}
-use Rattle.electric_levels.proofs.adjusted.Tie as tie
+use Rattle.electric.proofs.Parts.{same-carried}
+use Rattle.electric.proofs.levels.adjusted.Statement.{statement}
+use Rattle.electric.proofs.levels.adjusted.Tie as tie
 
 add-t5 : tie.Need-add-t5
 add-t5 c = fits64 (search bounds depth 30) tt

@@ -1,4 +1,4 @@
--- `electric_levels::accrued` adds the month's interest to the accrued one. Assumes nothing.
+-- `levels::accrued` adds the month's interest to the accrued one. Assumes nothing.
 use mathlib.Core.Path.{_≡_, _∙_}
 use lib.IntN.{_+ℤ_}
 use mir.Syntax.{w64}
@@ -7,10 +7,10 @@ use Rattle.ints.specs.Exact.{exacts, exact}
 use Rattle.ints.specs.Range.{Within, between-same}
 use Rattle.electric_rules.specs.Levels.{accruedLevel}
 use Rattle.ints.specs.Bound.{bounds, fits64}
-use Rattle.electric_levels.proofs.Parts.{same-interest}
-use Rattle.electric_levels.proofs.Bills.{interest-within}
-use Rattle.electric_levels.proofs.accrued.Statement.{statement}
-use Rattle.electric_levels.proofs.accrued.Tie as tie
+use Rattle.electric.proofs.Parts.{same-interest}
+use Rattle.electric.proofs.Bills.{interest-within}
+use Rattle.electric.proofs.levels.accrued.Statement.{statement}
+use Rattle.electric.proofs.levels.accrued.Tie as tie
 
 add-t6 : tie.Need-add-t6
 add-t6 c = let s = c .before .before .before .before .args in

@@ -1,12 +1,12 @@
--- `electric_levels::ended` is the level at a month's end: interest, then the handover. Assumes nothing.
+-- `levels::ended` is the level at a month's end: interest, then the handover. Assumes nothing.
 use mathlib.Core.Path.{sym, ap, _∙_, subst}
 use borrow.Author.Needs.{needs}
 use Rattle.ints.specs.Range.{Within}
 use Rattle.riders.specs.Runs.{RunWithin}
 use Rattle.electric_rules.specs.Levels.{accruedLevel, handedOver}
 use Rattle.electric_rules.specs.declared.Level.{Level}
-use Rattle.electric_levels.proofs.ended.Statement.{statement}
-use Rattle.electric_levels.proofs.ended.Tie as tie
+use Rattle.electric.proofs.levels.ended.Statement.{statement}
+use Rattle.electric.proofs.levels.ended.Tie as tie
 
 handed-over-requires : tie.Need-handed-over-requires
 unfolding accruedLevel

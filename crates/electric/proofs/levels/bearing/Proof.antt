@@ -1,10 +1,10 @@
--- `electric_levels::bearing` is the balance that bears interest. Assumes nothing.
+-- `levels::bearing` is the balance that bears interest. Assumes nothing.
 use Rattle.ints.specs.Bound.{bounds, fits64}
 use Rattle.ints.specs.Exact.{exacts, exact}
 use Rattle.amounts.specs.Amounts.{same-cents}
 use Rattle.electric_rules.specs.Levels.{bearingOf}
-use Rattle.electric_levels.proofs.bearing.Statement.{statement}
-use Rattle.electric_levels.proofs.bearing.Tie as tie
+use Rattle.electric.proofs.levels.bearing.Statement.{statement}
+use Rattle.electric.proofs.levels.bearing.Tie as tie
 
 add-t2 : tie.Need-add-t2
 add-t2 c = fits64 (search bounds depth 30) tt

@@ -1,4 +1,4 @@
--- `electric_levels::second_part` is the second part of the line: what the first leaves of it. Assumes nothing.
+-- `levels::second_part` is the second part of the line: what the first leaves of it. Assumes nothing.
 use mathlib.Core.Path.{_≡_, _∙_}
 use lib.IntN.{_-ℤ_}
 use mir.Syntax.{w64}
@@ -7,9 +7,9 @@ use Rattle.ints.specs.Exact.{exacts, exact}
 use Rattle.ints.specs.Range.{Within, between-same}
 use Rattle.ints.specs.Bound.{bounds, fits64}
 use Rattle.amounts.specs.Amounts.{same-cents}
-use Rattle.electric_levels.proofs.Bills.{line-within, first-within, second-is}
-use Rattle.electric_levels.proofs.second_part.Statement.{statement}
-use Rattle.electric_levels.proofs.second_part.Tie as tie
+use Rattle.electric.proofs.Bills.{line-within, first-within, second-is}
+use Rattle.electric.proofs.levels.second_part.Statement.{statement}
+use Rattle.electric.proofs.levels.second_part.Tie as tie
 
 sub-t5 : tie.Need-sub-t5
 sub-t5 c = let s = c .before .before .before .before .args in

@@ -1,10 +1,10 @@
--- `electric_levels::handed_over` is the handover of the run that enters. Assumes nothing.
+-- `levels::handed_over` is the handover of the run that enters. Assumes nothing.
 use borrow.Author.Needs.{needs}
 use Rattle.ints.specs.Exact.{exacts, exact}
 use Rattle.ints.specs.Bound.{bounds, fits64}
-use Rattle.electric_levels.proofs.Parts.{enters-first, enters-second, enters-neither}
-use Rattle.electric_levels.proofs.handed_over.Statement.{statement}
-use Rattle.electric_levels.proofs.handed_over.Tie as tie
+use Rattle.electric.proofs.Parts.{enters-first, enters-second, enters-neither}
+use Rattle.electric.proofs.levels.handed_over.Statement.{statement}
+use Rattle.electric.proofs.levels.handed_over.Tie as tie
 
 add-t8 : tie.Need-add-t8
 add-t8 c = fits64 (search bounds depth 30) tt

@@ -1,12 +1,12 @@
--- `electric_levels::billed` is the billed level: each run's due cents fall by its part. Assumes nothing.
+-- `levels::billed` is the billed level: each run's due cents fall by its part. Assumes nothing.
 use mathlib.Core.Path.{_∙_}
 use borrow.Author.Needs.{needs}
 use Rattle.ints.specs.Range.{between-same}
 use Rattle.riders.specs.Runs.{dueLess}
 use Rattle.electric_rules.specs.Levels.{billedLevel}
-use Rattle.electric_levels.proofs.Bills.{first-within, second-within}
-use Rattle.electric_levels.proofs.billed.Statement.{statement}
-use Rattle.electric_levels.proofs.billed.Tie as tie
+use Rattle.electric.proofs.Bills.{first-within, second-within}
+use Rattle.electric.proofs.levels.billed.Statement.{statement}
+use Rattle.electric.proofs.levels.billed.Tie as tie
 
 due-less-requires : tie.Need-due-less-requires
 due-less-requires c κs = let s = c .before .before .args in

@@ -19,7 +19,7 @@ ghost use Rattle.electric_rules.specs.Ranges.{LevelWithin};
 const MONTHLY: i64 = 12_000_000;
 
 // A bill's line.
-pub fn line(level: Level, posting: Posting) -> Cents
+pub(crate) fn line(level: Level, posting: Posting) -> Cents
     requires { ⌜ LevelWithin level × Ranged Book.Electric bill posting ⌝ }
     ensures { λ r. ⌜ r ≡ cents (levelLine (posting .second) level) ⌝ }
 {
@@ -48,6 +48,7 @@ fn second_part(level: Level, posting: Posting, line: Cents, first: Cents) -> Cen
     Cents(line.0 - first.0)
 }
 
+// The due cents fall by the part.
 fn due_less(part: Cents, run: Run) -> Run
     requires { ⌜ Within 5000000000000 (part .0) × RunWithin run ⌝ }
     ensures { λ r. ⌜ r ≡ dueLess (part .0) run ⌝ }
@@ -59,7 +60,7 @@ fn due_less(part: Cents, run: Run) -> Run
 }
 
 // Each run's due cents fall by its part of the line.
-pub fn billed(level: Level, posting: Posting, line: Cents) -> Level
+pub(crate) fn billed(level: Level, posting: Posting, line: Cents) -> Level
     requires { ⌜ LevelWithin level × Ranged Book.Electric bill posting × (line ≡ cents (levelLine (posting .second) level)) ⌝ }
     ensures { λ r. ⌜ r ≡ billedLevel (posting .second) level ⌝ }
 {
@@ -71,7 +72,8 @@ pub fn billed(level: Level, posting: Posting, line: Cents) -> Level
     next
 }
 
-pub fn adjusted(level: Level, posting: Posting) -> Level
+// The amount joins the carried cents.
+pub(crate) fn adjusted(level: Level, posting: Posting) -> Level
     requires { ⌜ LevelWithin level × Ranged Book.Electric adjust posting ⌝ }
     ensures { λ r. ⌜ r ≡ adjustedLevel (posting .second) level ⌝ }
 {
@@ -90,7 +92,7 @@ fn bearing(level: Level) -> Cents
 }
 
 // A month's interest on it.
-pub fn interest(level: Level, posting: Posting) -> Cents
+pub(crate) fn interest(level: Level, posting: Posting) -> Cents
     requires { ⌜ LevelWithin level × Ranged Book.Electric monthEnd posting ⌝ }
     ensures { λ r. ⌜ r ≡ cents (interestOn (posting .first) (bearingOf level)) ⌝ }
 {
@@ -134,7 +136,7 @@ fn handed_over(entering: u8, level: Level) -> Level
 }
 
 // A level at a month's end: interest, then the handover.
-pub fn ended(level: Level, posting: Posting, interest: Cents, entering: u8) -> Level
+pub(crate) fn ended(level: Level, posting: Posting, interest: Cents, entering: u8) -> Level
     requires { ⌜ LevelWithin level × Ranged Book.Electric monthEnd posting × (interest ≡ cents (interestOn (posting .first) (bearingOf level))) ⌝ }
     ensures { λ r. ⌜ r ≡ handedOver entering (accruedLevel (posting .first) level) ⌝ }
 {

@@ -1,4 +1,4 @@
--- `electric_levels::first_part` is the first part of the line. Assumes nothing.
+-- `levels::first_part` is the first part of the line. Assumes nothing.
 use mathlib.Core.Path.{_≡_, _∙_}
 use lib.IntN.{pos, _*ℤ_}
 use mir.Syntax.{w64}
@@ -9,9 +9,9 @@ use Rattle.ints.specs.Exact.{exacts, e-eq, exact}
 use Rattle.rounding.specs.Laws.{rounds}
 use Rattle.ints.specs.Bound.{bounds, fits64}
 use Rattle.amounts.specs.Amounts.{same-cents}
-use Rattle.electric_levels.proofs.Bills.{first-is}
-use Rattle.electric_levels.proofs.first_part.Statement.{statement}
-use Rattle.electric_levels.proofs.first_part.Tie as tie
+use Rattle.electric.proofs.Bills.{first-is}
+use Rattle.electric.proofs.levels.first_part.Statement.{statement}
+use Rattle.electric.proofs.levels.first_part.Tie as tie
 
 cast-round-div : tie.Need-cast-round-div
 cast-round-div c = fits64 (search bounds depth 30) tt
