@@ -45,7 +45,7 @@ module _ (b : ElectricBook) (p : Posting) where
   abbrev owedPrimary : ℤ
   owedPrimary = owedBy (primaryShare (ratesOf (b .division)) (b .period)) (b .primary)
 
-  abbrev pub settledAt : Run → Run → Posted
+  abbrev settledAt : Run → Run → Posted
   settledAt secondary primary =
       posted (FiledLevels (secondary .factor) (primary .factor))
       (settledWith b (remainder (remainderAfter (ratesOf (b .division)) (b .period))) (filedLevel secondary (b .secondary)) (filedLevel primary (b .primary)))

@@ -119,7 +119,7 @@ fn post_month_end(book: ElectricBook, posting: Posting) -> Posted
     }
 }
 
-// A factor that points have no room for is filed as one out of limits, so the book is stored or refused as the rules' own would be.
+// A run that no book may store is filed as another such, so the book is stored or refused as the rules' own would be.
 fn post_settlement(book: ElectricBook, posting: Posting) -> Posted
     requires { ⌜ BookWithin book × Ranged Book.Electric settle posting ⌝ }
     ensures { λ r. ⌜ StoredAs fits r (effectAt settle book posting) ⌝ }
@@ -131,19 +131,10 @@ fn post_settlement(book: ElectricBook, posting: Posting) -> Posted
         book.secondary,
         Kwh(posting.first),
     );
-    let on_primary = crate::filing::filing_of(
-        shares.primary,
-        book.primary,
-        Kwh(posting.second),
-    );
+    let on_primary = crate::filing::filing_of(shares.primary, book.primary, Kwh(posting.second));
     let secondary = crate::filing::filed_level(on_secondary, book.secondary);
     let primary = crate::filing::filed_level(on_primary, book.primary);
-    let next = crate::filing::settled_with(
-        book,
-        shares.remainder,
-        secondary,
-        primary,
-    );
+    let next = crate::filing::settled_with(book, shares.remainder, secondary, primary);
     let secondary_factor = on_secondary.factor;
     let primary_factor = on_primary.factor;
     Posted {

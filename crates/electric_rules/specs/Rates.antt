@@ -1,4 +1,4 @@
--- The rates of a division (01, Electric book, Opening; sheets 125 to 127). No other definition names one.
+-- The rates of a division (01, Electric book, Opening; sheets 125 to 127), and which a sheet may state. No other definition names one.
 use mathlib.Core.Bool.{Bool, cond, _&&_}
 use Prim.Native.Nat.{ℕ}
 use lib.Dec.{eqb}

@@ -108,9 +108,10 @@ impl Rates {
     // The most of a base; the least is 0.
     const MOST_BASE: i64 = 99_999;
 
-    // The loss factor of a level that loses nothing, and the most.
+    // The least of a loss factor: nothing is lost.
     const LEAST_LOSS: i64 = 100_000;
 
+    // The most of a loss factor.
     const MOST_LOSS: i64 = 199_999;
 
     // Whether a sheet may state the rates.

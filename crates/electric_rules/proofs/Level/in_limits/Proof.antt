@@ -1,8 +1,8 @@
 -- `Level::in_limits` tests the limits of a level: of each of its parts. Assumes nothing.
 use mathlib.Core.Bool.{_&&_}
 use borrow.Author.Needs.{needs}
-use Rattle.electric_rules.specs.Limits.{levelInLimits}
 use Rattle.electric_rules.proofs.Level.in_limits.Statement.{statement}
+use Rattle.electric_rules.specs.Limits.{levelInLimits}
 use Rattle.electric_rules.proofs.Level.in_limits.Tie as tie
 
 returns : tie.Need-returns

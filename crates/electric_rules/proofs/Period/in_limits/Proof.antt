@@ -1,8 +1,8 @@
 -- `Period::in_limits` tests the limits of a period: of each of its amounts. Assumes nothing.
 use mathlib.Core.Bool.{_&&_}
 use borrow.Author.Needs.{needs}
-use Rattle.electric_rules.specs.Limits.{periodInLimits}
 use Rattle.electric_rules.proofs.Period.in_limits.Statement.{statement}
+use Rattle.electric_rules.specs.Limits.{periodInLimits}
 use Rattle.electric_rules.proofs.Period.in_limits.Tie as tie
 
 returns : tie.Need-returns

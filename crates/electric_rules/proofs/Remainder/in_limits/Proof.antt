@@ -6,8 +6,8 @@ use mir.Val.{SFits}
 use mir.Facts.{toZ-ofZ}
 use borrow.Author.Needs.{needs}
 use Rattle.ints.specs.Range.{inRange}
-use Rattle.electric_rules.specs.Limits.{remainderInLimits}
 use Rattle.electric_rules.proofs.Remainder.in_limits.Statement.{statement}
+use Rattle.electric_rules.specs.Limits.{remainderInLimits}
 use Rattle.electric_rules.proofs.Remainder.in_limits.Tie as tie
 
 returns : tie.Need-returns
