@@ -70,15 +70,15 @@ fn post_bill(book: ElectricBook, posting: Posting) -> Posted
 {
     let mut next = book;
     if posting.first == 0 {
-        let line = electric_levels::line(book.secondary, posting);
-        next.secondary = electric_levels::billed(book.secondary, posting, line);
+        let line = crate::levels::line(book.secondary, posting);
+        next.secondary = crate::levels::billed(book.secondary, posting, line);
         return Posted {
             answer: Answer::Line(line),
             book: next,
         };
     }
-    let line = electric_levels::line(book.primary, posting);
-    next.primary = electric_levels::billed(book.primary, posting, line);
+    let line = crate::levels::line(book.primary, posting);
+    next.primary = crate::levels::billed(book.primary, posting, line);
     Posted {
         answer: Answer::Line(line),
         book: next,
@@ -91,9 +91,9 @@ fn post_adjustment(book: ElectricBook, posting: Posting) -> Posted
 {
     let mut next = book;
     if posting.first == 0 {
-        next.secondary = electric_levels::adjusted(book.secondary, posting);
+        next.secondary = crate::levels::adjusted(book.secondary, posting);
     } else {
-        next.primary = electric_levels::adjusted(book.primary, posting);
+        next.primary = crate::levels::adjusted(book.primary, posting);
     }
     Posted {
         answer: Answer::Done,
@@ -105,45 +105,36 @@ fn post_month_end(book: ElectricBook, posting: Posting) -> Posted
     requires { ⌜ BookWithin book × Ranged Book.Electric monthEnd posting ⌝ }
     ensures { λ r. ⌜ r ≡ effectAt monthEnd book posting ⌝ }
 {
-    let secondary = electric_levels::interest(book.secondary, posting);
-    let primary = electric_levels::interest(book.primary, posting);
+    let secondary = crate::levels::interest(book.secondary, posting);
+    let primary = crate::levels::interest(book.primary, posting);
     let run = electric_refusals::calendar::entering(book.month);
     let mut next = book;
     next.month = riders::months::month_after(book.month);
     next.settled = false;
-    next.secondary = electric_levels::ended(book.secondary, posting, secondary, run);
-    next.primary = electric_levels::ended(book.primary, posting, primary, run);
+    next.secondary = crate::levels::ended(book.secondary, posting, secondary, run);
+    next.primary = crate::levels::ended(book.primary, posting, primary, run);
     Posted {
         answer: Answer::Interest(secondary, primary),
         book: next,
     }
 }
 
-// A factor that points have no room for is filed as one out of limits, so the book is stored or refused as the rules' own would be.
+// A run that no book may store is filed as another such, so the book is stored or refused as the rules' own would be.
 fn post_settlement(book: ElectricBook, posting: Posting) -> Posted
     requires { ⌜ BookWithin book × Ranged Book.Electric settle posting ⌝ }
     ensures { λ r. ⌜ StoredAs fits r (effectAt settle book posting) ⌝ }
 {
     let rates = electric_settlement::rates_of(book.division);
     let shares = electric_settlement::shares_of(rates, book.period);
-    let on_secondary = electric_settlement::filing::filing_of(
+    let on_secondary = crate::filing::filing_of(
         shares.secondary,
         book.secondary,
         Kwh(posting.first),
     );
-    let on_primary = electric_settlement::filing::filing_of(
-        shares.primary,
-        book.primary,
-        Kwh(posting.second),
-    );
-    let secondary = electric_settlement::filing::filed_level(on_secondary, book.secondary);
-    let primary = electric_settlement::filing::filed_level(on_primary, book.primary);
-    let next = electric_settlement::filing::settled_with(
-        book,
-        shares.remainder,
-        secondary,
-        primary,
-    );
+    let on_primary = crate::filing::filing_of(shares.primary, book.primary, Kwh(posting.second));
+    let secondary = crate::filing::filed_level(on_secondary, book.secondary);
+    let primary = crate::filing::filed_level(on_primary, book.primary);
+    let next = crate::filing::settled_with(book, shares.remainder, secondary, primary);
     let secondary_factor = on_secondary.factor;
     let primary_factor = on_primary.factor;
     Posted {

@@ -8,6 +8,8 @@ ghost use Rattle.electric_rules.specs.Book.{refused};
 ghost use Rattle.electric_rules.specs.Refusals.{postOf};
 
 mod effects;
+mod filing;
+mod levels;
 
 fn refuse(book: ElectricBook, number: u8) -> Posted
     ensures { λ r. ⌜ r ≡ refused book number ⌝ }

@@ -6,7 +6,7 @@ use lib.Dec.{leb}
 use lib.IntN.{pos, negℤ}
 use borrow.Author.Tests.{leb-true}
 use Rattle.ints.specs.Flags.{both}
-use Rattle.ints.specs.Range.{Between, Within, inRange-true}
+use Rattle.ints.specs.Range.{Between, Within, inRange-true, inRange-yes}
 use Rattle.amounts.specs.Amounts.{centsInLimits, cents-within}
 use Rattle.riders.specs.Runs.{runInLimits, RunWithin, run-within}
 use Rattle.electric_rules.specs.declared.Kwh.{Kwh}
@@ -58,7 +58,7 @@ level-within l e =
       second = run-within (l .second) (d .1);
     }
 
-period-within : (p : Period) → periodInLimits p ≡ true → PeriodWithin p
+pub period-within : (p : Period) → periodInLimits p ≡ true → PeriodWithin p
 unfolding periodInLimits
 period-within p e =
     let k = both (centsInLimits (p .cost)) _ e in
@@ -70,6 +70,10 @@ period-within p e =
       primary = kwh-within (p .sales .primary) (t .0);
       remainder = remainder-within (p .remainder) (t .1);
     }
+
+pub period-yes : (p : Period) → PeriodWithin p → periodInLimits p ≡ true
+unfolding periodInLimits centsInLimits kwhInLimits remainderInLimits
+period-yes p h = simp (inRange-yes _ _ _ (h .cost), inRange-yes _ _ _ (h .secondary), inRange-yes _ _ _ (h .primary), inRange-yes _ _ _ (h .remainder))
 
 division-within : (b : ElectricBook) → datesInLimits b ≡ true → b .division ≤ 1
 unfolding datesInLimits

@@ -1,18 +1,19 @@
 -- How large the amounts of a settlement can be, for books in limits and for any rates that a sheet may state. Assumes nothing.
-use mathlib.Core.Path.{_≡_}
+use mathlib.Core.Path.{_≡_, refl}
 use mathlib.Core.Bool.{Bool, true, false, cond}
 use Prim.Native.Nat.{ℕ}
 use lib.Dec.{eqb}
 use lib.IntN.{ℤ, pos, negsuc, _*ℤ_}
 use lib.Signed.{_≤ℤ_}
+use Rattle.ints.specs.Flags.{both}
 use Rattle.ints.specs.Order.{signed, of-le}
-use Rattle.ints.specs.Range.{Between, Within, inRange-yes}
+use Rattle.ints.specs.Range.{inRange, Between, Within, inRange-true, inRange-yes}
 use Rattle.ints.specs.Bound.{bounds, within-by}
 use Rattle.rounding.specs.Laws.{rounds}
 use Rattle.rounding.specs.Weight.{mostWeighed, weighable, weighable-true, weight-between}
 use Rattle.electric_rules.specs.declared.Rates.{Rates}
 use Rattle.electric_rules.specs.declared.Period.{Period}
-use Rattle.electric_rules.specs.Rates.{ratesLP, ratesMPS, ratesOf}
+use Rattle.electric_rules.specs.Rates.{ratesLP, ratesMPS, ratesOf, ratesInRange}
 use Rattle.electric_rules.specs.Settlement.{varianceOf, shareableOf, shareOf, weightBy, secondaryShare, primaryShare}
 use Rattle.electric_rules.specs.Ranges.{PeriodWithin}
 
@@ -22,13 +23,27 @@ pub record RatesWithin (r : Rates) : Type 0 where
   pub secondary : Between (pos 100000) (pos 199999) (r .secondary)
   pub primary : Between (pos 100000) (pos 199999) (r .primary)
 
-pub rates-within : (division : ℕ) → RatesWithin (ratesOf division)
-unfolding ratesOf
-rates-within division = go (eqb division 0)
+pub rates-within : (r : Rates) → ratesInRange r ≡ true → RatesWithin r
+unfolding ratesInRange
+rates-within r e =
+    let p = both (inRange (pos 1) (pos 100) (r .percentage)) _ e in
+    let b = both (inRange (pos 0) (pos 99999) (r .base)) _ (p .1) in
+    let l = both (inRange (pos 100000) (pos 199999) (r .secondary)) _ (b .1) in
+    record {
+      percentage = inRange-true _ _ _ (p .0);
+      base = inRange-true _ _ _ (b .0);
+      secondary = inRange-true _ _ _ (l .0);
+      primary = inRange-true _ _ _ (l .1);
+    }
+
+-- those of a division are such
+pub division-rates : (division : ℕ) → ratesInRange (ratesOf division) ≡ true
+unfolding ratesOf ratesInRange inRange
+division-rates division = go (eqb division 0)
   where
-    go : (t : Bool) → RatesWithin (cond t ratesLP ratesMPS)
-    go true = record { percentage = omega signed; base = omega signed; secondary = omega signed; primary = omega signed }
-    go false = record { percentage = omega signed; base = omega signed; secondary = omega signed; primary = omega signed }
+    go : (t : Bool) → ratesInRange (cond t ratesLP ratesMPS) ≡ true
+    go true = refl
+    go false = refl
 
 -- kWh times loss factor can be weighed
 not-below : (x y : ℤ) → pos 0 ≤ℤ x → pos 0 ≤ℤ y → pos 0 ≤ℤ (x *ℤ y)

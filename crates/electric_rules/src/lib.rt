@@ -5,6 +5,8 @@ use postings::Answer;
 use riders::Run;
 ghost use mathlib.Core.Path.{_≡_};
 ghost use Rattle.electric_rules.specs.Book.{freshLevel, freshOf, openedOf};
+ghost use Rattle.electric_rules.specs.Rates.{ratesInRange};
+ghost use Rattle.electric_rules.specs.Limits.{kwhInLimits, remainderInLimits, levelInLimits, periodInLimits};
 
 // Sales in kWh.
 #[repr(C)]
@@ -39,6 +41,7 @@ pub struct Period {
     pub remainder: Remainder,
 }
 
+// A division's book: the open period and both levels.
 #[repr(C)]
 pub struct ElectricBook {
     pub division: u8,
@@ -65,10 +68,68 @@ pub struct Posted {
     pub book: ElectricBook,
 }
 
+impl Kwh {
+    // Whether a book may store the sales.
+    fn in_limits(self) -> bool
+        ensures { λ r. ⌜ r ≡ kwhInLimits self ⌝ }
+    {
+        ints::in_range(self.0, 0, ElectricBook::MOST_KWH)
+    }
+}
+
+impl Remainder {
+    // Whether a book may store the remainder.
+    fn in_limits(self) -> bool
+        ensures { λ r. ⌜ r ≡ remainderInLimits self ⌝ }
+    {
+        ints::in_range(
+            self.0,
+            -ElectricBook::MOST_REMAINDER,
+            ElectricBook::MOST_REMAINDER,
+        )
+    }
+}
+
+impl Period {
+    // Whether a book may store the period.
+    pub fn in_limits(self) -> bool
+        ensures { λ r. ⌜ r ≡ periodInLimits self ⌝ }
+    {
+        self.cost.in_limits()
+            & (self.sales.secondary.in_limits()
+                & (self.sales.primary.in_limits() & self.remainder.in_limits()))
+    }
+}
+
+impl Rates {
+    // The most of a percentage; the least is 1.
+    const MOST_PERCENTAGE: i64 = 100;
+
+    // The most of a base; the least is 0.
+    const MOST_BASE: i64 = 99_999;
+
+    // The least of a loss factor: nothing is lost.
+    const LEAST_LOSS: i64 = 100_000;
+
+    // The most of a loss factor.
+    const MOST_LOSS: i64 = 199_999;
+
+    // Whether a sheet may state the rates.
+    pub fn in_range(self) -> bool
+        ensures { λ r. ⌜ r ≡ ratesInRange self ⌝ }
+    {
+        ints::in_range(self.percentage, 1, Rates::MOST_PERCENTAGE)
+            & (ints::in_range(self.base, 0, Rates::MOST_BASE)
+                & (ints::in_range(self.secondary, Rates::LEAST_LOSS, Rates::MOST_LOSS)
+                    & ints::in_range(self.primary, Rates::LEAST_LOSS, Rates::MOST_LOSS)))
+    }
+}
+
 impl ElectricBook {
     // The month of a fresh book: June.
     pub const FIRST_MONTH: u8 = 6;
 
+    // MPS's; L&P's is 0.
     pub const LAST_DIVISION: u8 = 1;
 
     // The most open kWh of a level; the least is 0.
@@ -116,6 +177,15 @@ impl ElectricBook {
 }
 
 impl Level {
+    // Whether a book may store the level.
+    pub fn in_limits(self) -> bool
+        ensures { λ r. ⌜ r ≡ levelInLimits self ⌝ }
+    {
+        self.carried.in_limits()
+            & (self.interest.in_limits()
+                & (self.pending.in_limits() & (self.first.in_limits() & self.second.in_limits())))
+    }
+
     fn fresh() -> Level
         ensures { λ r. ⌜ r ≡ freshLevel ⌝ }
     {

@@ -1,3 +1,2 @@
 -- What the code's steps pass on; what they mean is said in the rules.
 pub mod Shares
-pub mod Filings

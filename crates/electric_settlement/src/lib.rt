@@ -10,9 +10,16 @@ ghost use Rattle.electric_rules.specs.Rates.{ratesOf};
 ghost use Rattle.electric_rules.specs.Settlement.{shareableOf, shareOf, remainderAfter, weightBy, secondaryShare, primaryShare};
 ghost use Rattle.electric_rules.specs.Ranges.{PeriodWithin};
 ghost use Rattle.electric_rules.specs.Sizes.{RatesWithin};
-ghost use Rattle.electric_settlement.specs.Shares.{asWeight, sharesOf};
+ghost use Rattle.electric_settlement.specs.Shares.{asWeight, sharesOf, sharesOr0};
 
-pub mod filing;
+// Hundred-thousandths of a dollar, in which a base counts, to a cent.
+const TO_A_CENT: i64 = 1_000;
+
+// Parts of a cent in which the remainder counts.
+const PARTS: i64 = 100_000;
+
+// The weight of all sales.
+const WHOLE: i64 = 100_000;
 
 // The secondary level's part of the customers' share, in hundred-thousandths.
 struct Weight(i64);
@@ -24,6 +31,7 @@ pub struct Shares {
     pub remainder: Remainder,
 }
 
+// The rates of a division: L&P's of 0, MPS's of any other.
 pub fn rates_of(division: u8) -> Rates
     ensures { λ r. ⌜ r ≡ ratesOf division ⌝ }
 {
@@ -49,7 +57,7 @@ fn shareable_of(rates: Rates, period: Period) -> Remainder
     ensures { λ r. ⌜ r ≡ remainder (shareableOf rates period) ⌝ }
 {
     let sold = period.sales.secondary.0 + period.sales.primary.0;
-    let variance = 1000 * period.cost.0 - rates.base * sold;
+    let variance = TO_A_CENT * period.cost.0 - rates.base * sold;
     Remainder(rates.percentage * variance + period.remainder.0)
 }
 
@@ -58,7 +66,7 @@ fn share_of(rates: Rates, period: Period, shareable: Remainder) -> Cents
     requires { ⌜ RatesWithin rates × PeriodWithin period × (shareable ≡ remainder (shareableOf rates period)) ⌝ }
     ensures { λ r. ⌜ r ≡ cents (shareOf rates period) ⌝ }
 {
-    Cents(rounding::round_div(shareable.0, 100_000))
+    Cents(rounding::round_div(shareable.0, PARTS))
 }
 
 // What rounding leaves.
@@ -66,9 +74,10 @@ fn remainder_after(rates: Rates, period: Period, shareable: Remainder, share: Ce
     requires { ⌜ RatesWithin rates × PeriodWithin period × (shareable ≡ remainder (shareableOf rates period)) × (share ≡ cents (shareOf rates period)) ⌝ }
     ensures { λ r. ⌜ r ≡ remainder (remainderAfter rates period) ⌝ }
 {
-    Remainder(shareable.0 - 100_000 * share.0)
+    Remainder(shareable.0 - PARTS * share.0)
 }
 
+// The secondary level's part of the sales, each level's being weighed by its loss factor.
 fn weight_by(rates: Rates, period: Period) -> Weight
     requires { ⌜ RatesWithin rates × PeriodWithin period ⌝ }
     ensures { λ r. ⌜ r ≡ asWeight (weightBy rates period) ⌝ }
@@ -79,11 +88,12 @@ fn weight_by(rates: Rates, period: Period) -> Weight
     ))
 }
 
+// The secondary level's part of the customers' share.
 fn secondary_share(rates: Rates, period: Period, share: Cents, weight: Weight) -> Cents
     requires { ⌜ RatesWithin rates × PeriodWithin period × (share ≡ cents (shareOf rates period)) × (weight ≡ asWeight (weightBy rates period)) ⌝ }
     ensures { λ r. ⌜ r ≡ cents (secondaryShare rates period) ⌝ }
 {
-    Cents(rounding::round_div(share.0 * weight.0, 100_000))
+    Cents(rounding::round_div(share.0 * weight.0, WHOLE))
 }
 
 // The rest of the customers' share.
@@ -94,7 +104,8 @@ fn primary_share(rates: Rates, period: Period, share: Cents, secondary: Cents) -
     Cents(share.0 - secondary.0)
 }
 
-pub fn shares_of(rates: Rates, period: Period) -> Shares
+// Both shares and the remainder, of rates that a sheet may state and amounts within their limits.
+fn shares_within(rates: Rates, period: Period) -> Shares
     requires { ⌜ RatesWithin rates × PeriodWithin period ⌝ }
     ensures { λ r. ⌜ r ≡ sharesOf rates period ⌝ }
 {
@@ -105,5 +116,20 @@ pub fn shares_of(rates: Rates, period: Period) -> Shares
         secondary,
         primary: primary_share(rates, period, share, secondary),
         remainder: remainder_after(rates, period, shareable, share),
+    }
+}
+
+// What a settlement works out, for any rates and period: nothing is shared where a rate or an amount is out of range.
+pub fn shares_of(rates: Rates, period: Period) -> Shares
+    ensures { λ r. ⌜ r ≡ sharesOr0 rates period ⌝ }
+{
+    if rates.in_range() & period.in_limits() {
+        return shares_within(rates, period);
+    }
+    let remainder = period.remainder;
+    Shares {
+        secondary: Cents(0),
+        primary: Cents(0),
+        remainder,
     }
 }

@@ -1,7 +1,7 @@
 -- `sold_nothing` is row 10 of the table: of a settlement the sum of the sales is compared, of any other kind nothing. Assumes nothing.
-use mathlib.Core.Path.{_≡_, refl, sym, ap, _∙_}
-use mathlib.Core.Bool.{false}
+use mathlib.Core.Path.{sym, ap, _∙_}
 use Prim.Native.Nat.{ℕ}
+use native.Mathlib.Omega.{arith}
 use lib.IntN.{pos, _+ℤ_}
 use mir.Syntax.{w64}
 use mir.Val.{SFits}
@@ -9,10 +9,8 @@ use mir.Facts.{toZ-ofZ}
 use Rattle.ints.specs.Bound.{bounds, b-between, fits64}
 use Rattle.ints.specs.Machine.{eqZ, eqZ-bits, zero64}
 use Rattle.postings.specs.Kinds.{settle, kindOf, other-kind}
-use native.Mathlib.Omega.{arith}
 use Rattle.electric_rules.specs.Ranges.{book-within}
 use Rattle.electric_rules.specs.Refusals.{nothingSold}
-use Rattle.electric_rules.specs.declared.ElectricBook.{ElectricBook}
 use Rattle.electric_refusals.proofs.sold_nothing.Statement.{statement}
 use Rattle.electric_refusals.proofs.sold_nothing.Tie as tie
 

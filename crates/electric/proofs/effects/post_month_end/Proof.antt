@@ -6,7 +6,6 @@ use Rattle.postings.specs.declared.Answer.the-variants.{Interest}
 use Rattle.electric_rules.specs.Book.{posted}
 use Rattle.electric_rules.specs.Levels.{accruedLevel, handedOver}
 use Rattle.electric_rules.specs.Next.{endedWith, monthEnded, nextAt, interestAnswer, answerAt}
-use Rattle.riders.specs.Runs.{run}
 use Rattle.electric.proofs.effects.post_month_end.Statement.{statement}
 use Rattle.electric.proofs.effects.post_month_end.Tie as tie
 

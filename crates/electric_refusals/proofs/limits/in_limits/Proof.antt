@@ -8,8 +8,8 @@ use Rattle.electric_refusals.proofs.limits.in_limits.Tie as tie
 returns : tie.Need-returns
 unfolding inLimits
 returns c = λ i.
-    c .before .before .before .dates-in-limits .ensures i && (c .before .before .period-in-limits .ensures i
-    && (c .before .level-in-limits .ensures i && c .level-in-limits2 .ensures i))
+    c .before .before .before .dates-in-limits .ensures i && (c .before .before .in-limits .ensures i
+    && (c .before .in-limits2 .ensures i && c .in-limits3 .ensures i))
 
 pub in-limits-spec : {M : Type 1} → statement M
 in-limits-spec =
