@@ -1,10 +1,10 @@
--- `steam_settlement::shifted` lets the oldest quarter leave and the newest enter. Assumes nothing.
+-- `effects::shifted` lets the oldest quarter leave and the newest enter. Assumes nothing.
 use mathlib.Core.Path.{_≡_}
 use lib.ListN.{length}
 use borrow.Author.Needs.{needs}
 use Rattle.steam_rules.specs.Quarters.{shifted-four}
-use Rattle.steam_settlement.proofs.shifted.Statement.{statement}
-use Rattle.steam_settlement.proofs.shifted.Tie as tie
+use Rattle.steam.proofs.effects.shifted.Statement.{statement}
+use Rattle.steam.proofs.effects.shifted.Tie as tie
 
 returns : tie.Need-returns
 returns c = let s = c .before .before .before .args in

@@ -16,10 +16,10 @@ use Rattle.steam_rules.specs.declared.SteamBook.{SteamBook}
 use Rattle.steam_rules.specs.Next.{factorsOf, duesLess}
 use Rattle.steam_rules.specs.Fours.{Four, as-four, at}
 use Rattle.steam_rules.specs.Ranges.{PointsWithin, BookWithin}
-use Rattle.steam_runs.specs.declared.bills.Factors.{Factors}
-use Rattle.steam_runs.specs.declared.bills.Totals.{Totals}
-use Rattle.steam_runs.specs.declared.bills.Lines.{Lines}
-use Rattle.steam_runs.specs.Lines.{asFactors, totalsOf, linesOf}
+use Rattle.steam.specs.declared.bills.Factors.{Factors}
+use Rattle.steam.specs.declared.bills.Totals.{Totals}
+use Rattle.steam.specs.declared.bills.Lines.{Lines}
+use Rattle.steam.specs.Lines.{asFactors, totalsOf, linesOf}
 
 -- what is due under run i + 1
 abbrev pub dueAt : SteamBook → ℕ → ℤ

@@ -5,9 +5,9 @@ use lib.ListN.{take}
 use Rattle.amounts.specs.Amounts.{cents}
 use Rattle.amounts.specs.declared.Points.{Points}
 use Rattle.riders.specs.Lines.{together, lineOf}
-use Rattle.steam_runs.specs.declared.bills.Factors.{Factors}
-use Rattle.steam_runs.specs.declared.bills.Totals.{Totals}
-use Rattle.steam_runs.specs.declared.bills.Lines.{Lines}
+use Rattle.steam.specs.declared.bills.Factors.{Factors}
+use Rattle.steam.specs.declared.bills.Totals.{Totals}
+use Rattle.steam.specs.declared.bills.Lines.{Lines}
 
 abbrev pub asFactors : ℤ → Factors
 asFactors z = record { 0 = z }

@@ -1,4 +1,4 @@
--- `steam_runs::bills::lines_of` gives the lines of the factors up to each run: each is the line at their sum. Assumes nothing.
+-- `bills::lines_of` gives the lines of the factors up to each run: each is the line at their sum. Assumes nothing.
 use mathlib.Core.Path.{_∙_}
 use lib.IntN.{ℤ, pos, _*ℤ_}
 use borrow.Author.Needs.{needs}
@@ -6,9 +6,9 @@ use Rattle.rounding.specs.Round.{round}
 use Rattle.amounts.specs.Amounts.{cents}
 use Rattle.amounts.specs.declared.Cents.{Cents}
 use Rattle.riders.specs.Lines.{lineOf}
-use Rattle.steam_runs.proofs.BillLines.{TotalsWithin, totals-within}
-use Rattle.steam_runs.proofs.bills.lines_of.Statement.{statement}
-use Rattle.steam_runs.proofs.bills.lines_of.Tie as tie
+use Rattle.steam.proofs.BillLines.{TotalsWithin, totals-within}
+use Rattle.steam.proofs.bills.lines_of.Statement.{statement}
+use Rattle.steam.proofs.bills.lines_of.Tie as tie
 
 within : (c : tie.After-totals-of) → TotalsWithin (c .totals-of .result)
 within c = let w = c .before .before .pre .0 .runs in totals-within _ _ (w .factors) (w .reconciliation .factor) (c .totals-of .ensures)

@@ -11,7 +11,7 @@ ghost use Rattle.steam_rules.specs.Next.{entered, reconciled};
 ghost use Rattle.steam_rules.specs.Ranges.{BookWithin};
 
 // The run that enters, 1 to 4, adds its due cents to the carried ones and becomes the pending run.
-pub fn entered(run: u8, book: SteamBook) -> SteamBook
+pub(crate) fn entered(run: u8, book: SteamBook) -> SteamBook
     requires { ⌜ (run ≤ 4) × BookWithin book ⌝ }
     ensures { λ r. ⌜ r ≡ entered run book ⌝ }
 {
@@ -33,7 +33,7 @@ pub fn entered(run: u8, book: SteamBook) -> SteamBook
 }
 
 // The reconciliation loses a month; at none left its due cents join the carried ones.
-pub fn reconciled(book: SteamBook) -> SteamBook
+pub(crate) fn reconciled(book: SteamBook) -> SteamBook
     requires { ⌜ Within 2000000000000 (book .carried .0) × RunWithin (book .reconciliation .run) ⌝ }
     ensures { λ r. ⌜ r ≡ reconciled book ⌝ }
 {

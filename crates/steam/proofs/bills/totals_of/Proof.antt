@@ -1,4 +1,4 @@
--- `steam_runs::bills::totals_of` gives the factors up to each run together, each sum by the one before it. Assumes nothing.
+-- `bills::totals_of` gives the factors up to each run together, each sum by the one before it. Assumes nothing.
 use native.Mathlib.Omega.{arith}
 use lib.IntN.{pos}
 use borrow.Author.Needs.{needs}
@@ -7,9 +7,9 @@ use Rattle.ints.specs.Range.{Within, between-same}
 use Rattle.ints.specs.Bound.{b-add, b-between, within-by}
 use Rattle.amounts.specs.Amounts.{points}
 use Rattle.steam_rules.specs.Fours.{at}
-use Rattle.steam_runs.proofs.BillLines.{totals-are}
-use Rattle.steam_runs.proofs.bills.totals_of.Statement.{statement}
-use Rattle.steam_runs.proofs.bills.totals_of.Tie as tie
+use Rattle.steam.proofs.BillLines.{totals-are}
+use Rattle.steam.proofs.bills.totals_of.Statement.{statement}
+use Rattle.steam.proofs.bills.totals_of.Tie as tie
 
 with-run-requires : tie.Need-with-run-requires
 with-run-requires c κs = (omega signed, at (points (pos 0)) (c .before .pre .0) 0 (omega arith))

@@ -1,10 +1,10 @@
--- `steam_runs::month_ends::reconciled` takes a month from the reconciliation as the rules do, by the months that are left. Assumes nothing.
+-- `month_ends::reconciled` takes a month from the reconciliation as the rules do, by the months that are left. Assumes nothing.
 use borrow.Author.Needs.{needs}
 use Rattle.ints.specs.Bound.{bounds, fits64}
 use Rattle.ints.specs.Exact.{exacts, exact}
-use Rattle.steam_runs.proofs.Parts.{none-runs, last-month, month-lost}
-use Rattle.steam_runs.proofs.month_ends.reconciled.Statement.{statement}
-use Rattle.steam_runs.proofs.month_ends.reconciled.Tie as tie
+use Rattle.steam.proofs.MonthEnds.{none-runs, last-month, month-lost}
+use Rattle.steam.proofs.month_ends.reconciled.Statement.{statement}
+use Rattle.steam.proofs.month_ends.reconciled.Tie as tie
 
 returns : tie.Need-returns
 returns c = none-runs (c .before .args .book) (c .if1 .taken)

@@ -1,9 +1,9 @@
--- `steam_runs::bills::with_run` is the sum. Assumes nothing.
+-- `bills::with_run` is the sum. Assumes nothing.
 use Rattle.ints.specs.Bound.{bounds, fits64}
 use Rattle.ints.specs.Exact.{exacts, exact}
-use Rattle.steam_runs.proofs.BillLines.{same-factors}
-use Rattle.steam_runs.proofs.bills.with_run.Statement.{statement}
-use Rattle.steam_runs.proofs.bills.with_run.Tie as tie
+use Rattle.steam.proofs.BillLines.{same-factors}
+use Rattle.steam.proofs.bills.with_run.Statement.{statement}
+use Rattle.steam.proofs.bills.with_run.Tie as tie
 
 cast-t3 : tie.Need-cast-t3
 cast-t3 c = fits64 (search bounds depth 30) tt

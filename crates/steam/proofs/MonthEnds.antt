@@ -1,17 +1,22 @@
 -- What a month's end makes of the runs, over what the code stores. Assumes nothing.
 use mathlib.Core.Path.{_≡_, sym, ap, _∙_}
-use Prim.Native.Nat.{ℕ, zero, suc, _-_}
+use Prim.Native.Nat.{_≤_, ℕ, zero, suc, _-_}
 use native.Mathlib.Omega.{arith}
-use lib.IntN.{ℤ, _+ℤ_}
+use lib.IntN.{pos, ℤ, _+ℤ_}
 use lib.ListN.{set}
+use Rattle.ints.specs.Order.{signed}
+use Rattle.ints.specs.Range.{Within}
+use Rattle.ints.specs.Bound.{b-between, b-add, within-by}
+use Rattle.riders.specs.Runs.{RunWithin, noRun}
+use Rattle.steam_rules.specs.Fours.{at}
+use Rattle.steam_rules.specs.Ranges.{BookWithin}
 use Rattle.amounts.specs.Amounts.{cents}
-use Rattle.riders.specs.Runs.{noRun}
 use Rattle.riders.specs.declared.Run.{Run}
 use Rattle.steam_rules.specs.declared.Reconciliation.{Reconciliation}
 use Rattle.steam_rules.specs.declared.SteamBook.{SteamBook}
 use Rattle.steam_rules.specs.Book.{reconciliationOf, noReconciliation}
 use Rattle.steam_rules.specs.Next.{withAccount, entered, monthLost, reconciled}
-use Rattle.steam_runs.proofs.BillLines.{dueAt}
+use Rattle.steam.proofs.BillLines.{dueAt}
 
 -- ---- the run that enters
 
@@ -37,6 +42,15 @@ enteredAs b place carried none =
 pub run-enters : (run place : ℕ) (b : SteamBook) {carried : ℤ} {none : Run} → run ≡ suc place → carried ≡ b .carried .0 +ℤ dueAt b place → none ≡ noRun → enteredAs b place carried none ≡ entered run b
 unfolding entered
 run-enters run place b r e n = (λ i. enteredAs b place (e i) (n i)) ∙ ap (λ (k : ℕ). entered k b) (sym r)
+
+-- how large the account can be before the reconciliation's month
+pub entered-within : (run : ℕ) (b : SteamBook) → run ≤ 4 → BookWithin b → Within 2000000000000 (entered run b .carried .0) × RunWithin (entered run b .reconciliation .run)
+unfolding entered
+entered-within zero b m w = (let carried = w .carried in omega signed, w .runs .reconciliation)
+entered-within (suc i) b m w = (
+  within-by (b-add (b-between (w .carried)) (b-between (at (cents (pos 0)) (w .runs .dues) i (omega arith)))) tt,
+  w .runs .reconciliation,
+)
 
 -- ---- the reconciliation's month
 

@@ -1,11 +1,11 @@
--- `steam_runs::bills::reconciliation_less` lets what is due under the reconciliation fall by the rest of the line. Assumes nothing.
+-- `bills::reconciliation_less` lets what is due under the reconciliation fall by the rest of the line. Assumes nothing.
 use mathlib.Core.Path.{_∙_}
 use lib.IntN.{_-ℤ_}
 use Rattle.amounts.specs.Amounts.{cents, same-cents}
 use Rattle.steam_rules.specs.Book.{reconciliationOf}
-use Rattle.steam_runs.proofs.BillLines.{lines-within, rest-falls}
-use Rattle.steam_runs.proofs.bills.reconciliation_less.Statement.{statement}
-use Rattle.steam_runs.proofs.bills.reconciliation_less.Tie as tie
+use Rattle.steam.proofs.BillLines.{lines-within, rest-falls}
+use Rattle.steam.proofs.bills.reconciliation_less.Statement.{statement}
+use Rattle.steam.proofs.bills.reconciliation_less.Tie as tie
 
 due-less-requires : tie.Need-due-less-requires
 due-less-requires c κs = let s = c .args in

@@ -1,4 +1,4 @@
--- `steam_runs::month_ends::entered` lets the run enter that the rules enter. Assumes nothing.
+-- `month_ends::entered` lets the run enter that the rules enter. Assumes nothing.
 use mathlib.Core.Path.{_≡_}
 use Prim.Native.Nat.{suc, _-_}
 use native.Mathlib.Omega.{arith}
@@ -9,10 +9,10 @@ use Rattle.ints.specs.Exact.{exacts, exact}
 use Rattle.ints.specs.Range.{Within}
 use Rattle.amounts.specs.Amounts.{cents}
 use Rattle.steam_rules.specs.Fours.{at}
-use Rattle.steam_runs.proofs.BillLines.{dueAt}
-use Rattle.steam_runs.proofs.Parts.{none-enters, run-enters}
-use Rattle.steam_runs.proofs.month_ends.entered.Statement.{statement}
-use Rattle.steam_runs.proofs.month_ends.entered.Tie as tie
+use Rattle.steam.proofs.BillLines.{dueAt}
+use Rattle.steam.proofs.MonthEnds.{none-enters, run-enters}
+use Rattle.steam.proofs.month_ends.entered.Statement.{statement}
+use Rattle.steam.proofs.month_ends.entered.Tie as tie
 
 returns : tie.Need-returns
 returns c = none-enters (c .before .args .run) (c .before .args .t2) (c .if1 .taken)

@@ -19,7 +19,7 @@ ghost use Rattle.steam_rules.specs.Book.{reconciliationOf};
 ghost use Rattle.steam_rules.specs.Next.{factorsOf, duesLess};
 ghost use Rattle.steam_rules.specs.Fours.{Four};
 ghost use Rattle.steam_rules.specs.Ranges.{PointsWithin, BookWithin};
-ghost use Rattle.steam_runs.specs.Lines.{asFactors, totalsOf, linesOf};
+ghost use Rattle.steam.specs.Lines.{asFactors, totalsOf, linesOf};
 
 // Factors together.
 struct Factors(i64);
@@ -34,7 +34,7 @@ struct Totals {
 }
 
 // The lines of the factors up to each run; the last is the bill's own.
-pub struct Lines {
+pub(crate) struct Lines {
     pub first: Cents,
     pub second: Cents,
     pub third: Cents,
@@ -42,6 +42,7 @@ pub struct Lines {
     pub all: Cents,
 }
 
+// The line of the bill's usage at factors that stand together.
 fn line_at(posting: Posting, factors: Factors) -> Cents
     requires { ⌜ Ranged Book.Steam bill posting × Within 500000 (factors .0) ⌝ }
     ensures { λ r. ⌜ r ≡ cents (round (posting .first *ℤ factors .0) (pos 100)) ⌝ }
@@ -49,6 +50,7 @@ fn line_at(posting: Posting, factors: Factors) -> Cents
     Cents(rounding::round_div(posting.first * factors.0, Points::TO_A_CENT))
 }
 
+// One run's factor more.
 fn with_run(before: Factors, factor: Points) -> Factors
     requires { ⌜ Within 500000 (before .0) × PointsWithin factor ⌝ }
     ensures { λ r. ⌜ r ≡ asFactors (before .0 +ℤ factor .0) ⌝ }
@@ -56,6 +58,7 @@ fn with_run(before: Factors, factor: Points) -> Factors
     Factors(before.0 + factor.0 as i64)
 }
 
+// The factors up to each run together, each sum by the one before it.
 fn totals_of(factors: [Points; 4], last: Points) -> Totals
     requires { ⌜ Four PointsWithin factors × PointsWithin last ⌝ }
     ensures { λ r. ⌜ r ≡ totalsOf (factors ++ (last ∷ [])) ⌝ }
@@ -73,7 +76,8 @@ fn totals_of(factors: [Points; 4], last: Points) -> Totals
     }
 }
 
-pub fn lines_of(book: SteamBook, posting: Posting) -> Lines
+// The lines of a bill, from which both its answer and the runs' parts follow.
+pub(crate) fn lines_of(book: SteamBook, posting: Posting) -> Lines
     requires { ⌜ BookWithin book × Ranged Book.Steam bill posting ⌝ }
     ensures { λ r. ⌜ r ≡ linesOf (posting .first) (factorsOf book) ⌝ }
 {
@@ -97,7 +101,7 @@ fn due_less(due: Cents, after: Cents, before: Cents) -> Cents
 }
 
 // What is due under runs 1 to 4 falls by each run's part.
-pub fn dues_less(book: SteamBook, posting: Posting, lines: Lines) -> [Cents; 4]
+pub(crate) fn dues_less(book: SteamBook, posting: Posting, lines: Lines) -> [Cents; 4]
     requires { ⌜ BookWithin book × Ranged Book.Steam bill posting × (lines ≡ linesOf (posting .first) (factorsOf book)) ⌝ }
     ensures { λ r. ⌜ r ≡ duesLess (partOf (posting .first) (factorsOf book)) (book .dues) ⌝ }
 {
@@ -109,7 +113,7 @@ pub fn dues_less(book: SteamBook, posting: Posting, lines: Lines) -> [Cents; 4]
 }
 
 // What is due under the reconciliation falls by the rest of the line.
-pub fn reconciliation_less(book: SteamBook, posting: Posting, lines: Lines) -> Reconciliation
+pub(crate) fn reconciliation_less(book: SteamBook, posting: Posting, lines: Lines) -> Reconciliation
     requires { ⌜ BookWithin book × Ranged Book.Steam bill posting × (lines ≡ linesOf (posting .first) (factorsOf book)) ⌝ }
     ensures { λ r. ⌜ r ≡ reconciliationOf (dueLess (partOf (posting .first) (factorsOf book) 4) (book .reconciliation .run)) (book .reconciliation .months) ⌝ }
 {

@@ -1,9 +1,9 @@
--- `steam_runs::bills::due_less` takes the part between two lines away. Assumes nothing.
+-- `bills::due_less` takes the part between two lines away. Assumes nothing.
 use Rattle.ints.specs.Bound.{bounds, fits64}
 use Rattle.ints.specs.Exact.{exacts, exact}
 use Rattle.amounts.specs.Amounts.{same-cents}
-use Rattle.steam_runs.proofs.bills.due_less.Statement.{statement}
-use Rattle.steam_runs.proofs.bills.due_less.Tie as tie
+use Rattle.steam.proofs.bills.due_less.Statement.{statement}
+use Rattle.steam.proofs.bills.due_less.Tie as tie
 
 sub-t4 : tie.Need-sub-t4
 sub-t4 c = fits64 (search bounds depth 30) tt

@@ -1,4 +1,4 @@
--- `steam_runs::bills::dues_less` lets what is due under each run fall by its part, which lies between two lines. Assumes nothing.
+-- `bills::dues_less` lets what is due under each run fall by its part, which lies between two lines. Assumes nothing.
 use mathlib.Core.Path.{_∙_}
 use mathlib.Core.List.{[], _∷_}
 use native.Mathlib.Omega.{arith}
@@ -7,9 +7,9 @@ use borrow.Author.Needs.{needs}
 use Rattle.ints.specs.Order.{signed}
 use Rattle.amounts.specs.Amounts.{cents}
 use Rattle.steam_rules.specs.Fours.{at}
-use Rattle.steam_runs.proofs.BillLines.{dueAt, lines-within, dues-fall}
-use Rattle.steam_runs.proofs.bills.dues_less.Statement.{statement}
-use Rattle.steam_runs.proofs.bills.dues_less.Tie as tie
+use Rattle.steam.proofs.BillLines.{dueAt, lines-within, dues-fall}
+use Rattle.steam.proofs.bills.dues_less.Statement.{statement}
+use Rattle.steam.proofs.bills.dues_less.Tie as tie
 
 due-less-requires : tie.Need-due-less-requires
 due-less-requires c κs = let s = c .before .args in
