@@ -168,6 +168,7 @@ fn post_reconciliation(book: SteamBook, posting: Posting) -> Posted
     }
 }
 
+// The effect of the posting, by its kind.
 pub(crate) fn effect(book: SteamBook, posting: Posting) -> Posted
     requires { ⌜ BookWithin book × Ranged Book.Steam (kindOf (posting .kind)) posting × (unknownKind Book.Steam (posting .kind) ≡ false) ⌝ }
     ensures { λ r. ⌜ StoredAs fits r (effectAt (kindOf (posting .kind)) book posting) ⌝ }

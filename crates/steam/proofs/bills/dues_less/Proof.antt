@@ -1,39 +1,40 @@
 -- `bills::dues_less` lets what is due under each run fall by its part, which lies between two lines. Assumes nothing.
 use mathlib.Core.Path.{_∙_}
 use mathlib.Core.List.{[], _∷_}
-use native.Mathlib.Omega.{arith}
 use lib.IntN.{pos, _-ℤ_}
 use borrow.Author.Needs.{needs}
 use Rattle.ints.specs.Order.{signed}
 use Rattle.amounts.specs.Amounts.{cents}
-use Rattle.steam_rules.specs.Fours.{at}
-use Rattle.steam.proofs.BillLines.{dueAt, lines-within, dues-fall}
+use Rattle.ints.specs.Range.{Within}
+use Rattle.steam_rules.specs.Fours.{one-by-one}
+use Rattle.steam.proofs.BillLines.{dueAt, LinesWithin, lines-within, dues-fall}
 use Rattle.steam.proofs.bills.dues_less.Statement.{statement}
 use Rattle.steam.proofs.bills.dues_less.Tie as tie
 
+-- the lines are within their limits, whichever of them a step takes
+bounded : (c : tie.Start) → LinesWithin (c .args .posting .first) (c .args .t1) (c .args .lines)
+bounded c = lines-within (c .args .posting .first) (c .args .t1) (c .args .lines) (c .pre .0) (c .pre .1 .0) (c .pre .2)
+
 due-less-requires : tie.Need-due-less-requires
-due-less-requires c κs = let s = c .before .args in
-    let w = c .before .pre in
-    let lines = lines-within (s .posting .first) (s .t1) (s .lines) (w .0) (w .1 .0) (w .2) in
-    (at (cents (pos 0)) (w .0 .runs .dues) 0 (omega arith), lines .first, omega signed)
+due-less-requires c κs = let dues = one-by-one (cents (pos 0)) (c .before .pre .0 .runs .dues) in
+    let lines = bounded (c .before) in
+    let none : Within 60000000000 (pos 0) = omega signed in
+    search (dues, lines, none)
 
 due-less-requires-2 : tie.Need-due-less-requires-2
-due-less-requires-2 c κs = let s = c .before .before .before .args in
-    let w = c .before .before .before .pre in
-    let lines = lines-within (s .posting .first) (s .t1) (s .lines) (w .0) (w .1 .0) (w .2) in
-    (at (cents (pos 0)) (w .0 .runs .dues) 1 (omega arith), lines .second, lines .first)
+due-less-requires-2 c κs = let dues = one-by-one (cents (pos 0)) (c .before .before .before .pre .0 .runs .dues) in
+    let lines = bounded (c .before .before .before) in
+    search (dues, lines)
 
 due-less-requires-3 : tie.Need-due-less-requires-3
-due-less-requires-3 c κs = let s = c .before .before .before .before .before .args in
-    let w = c .before .before .before .before .before .pre in
-    let lines = lines-within (s .posting .first) (s .t1) (s .lines) (w .0) (w .1 .0) (w .2) in
-    (at (cents (pos 0)) (w .0 .runs .dues) 2 (omega arith), lines .third, lines .second)
+due-less-requires-3 c κs = let dues = one-by-one (cents (pos 0)) (c .before .before .before .before .before .pre .0 .runs .dues) in
+    let lines = bounded (c .before .before .before .before .before) in
+    search (dues, lines)
 
 due-less-requires-4 : tie.Need-due-less-requires-4
-due-less-requires-4 c κs = let s = c .before .before .before .before .before .before .before .args in
-    let w = c .before .before .before .before .before .before .before .pre in
-    let lines = lines-within (s .posting .first) (s .t1) (s .lines) (w .0) (w .1 .0) (w .2) in
-    (at (cents (pos 0)) (w .0 .runs .dues) 3 (omega arith), lines .fourth, lines .third)
+due-less-requires-4 c κs = let dues = one-by-one (cents (pos 0)) (c .before .before .before .before .before .before .before .pre .0 .runs .dues) in
+    let lines = bounded (c .before .before .before .before .before .before .before) in
+    search (dues, lines)
 
 returns : tie.Need-returns
 returns c = let s = c .before .before .before .before .before .before .before .before .args in
