@@ -1,24 +1,14 @@
 -- A part of the book is the same where the amounts are that a step makes anew. Assumes nothing.
 use mathlib.Core.Path.{_≡_, sym, ap, _∙_, subst}
 use mathlib.Core.Logic.{_⊎_, inl, inr}
-use Prim.Native.Nat.{ℕ, zero, suc, _≤_}
 use native.Mathlib.Omega.{arith}
 use lib.Dec.{T}
 use lib.IntN.{ℤ, pos, natAbs}
 use lib.Signed.{nonNeg}
 use mir.Syntax.{w8, w64}
 use mir.Val.{Fits, toZ, ofZ}
-use Rattle.ints.specs.Order.{signed}
-use Rattle.ints.specs.Range.{Within}
-use Rattle.ints.specs.Bound.{b-between, b-add, within-by}
-use Rattle.amounts.specs.Amounts.{cents}
-use Rattle.riders.specs.Runs.{RunWithin}
 use Rattle.steam_rules.specs.declared.Period.{Period}
-use Rattle.steam_rules.specs.declared.SteamBook.{SteamBook}
 use Rattle.steam_rules.specs.Book.{periodOf}
-use Rattle.steam_rules.specs.Fours.{at}
-use Rattle.steam_rules.specs.Ranges.{BookWithin}
-use Rattle.steam_rules.specs.Next.{entered}
 
 pub same-cost : (p : Period) {a b : ℤ} → a ≡ b → periodOf a (p .sales .0) (p .remainder .0) ≡ periodOf b (p .sales .0) (p .remainder .0)
 same-cost p e = λ i. periodOf (e i) (p .sales .0) (p .remainder .0)
@@ -35,13 +25,3 @@ months-fit z (inr e) = subst (λ (z : ℤ). T (nonNeg (toZ w64 (ofZ w64 z))) × 
 pub months-read : (z : ℤ) → (z ≡ pos 12) ⊎ (z ≡ pos 24) → natAbs (toZ w64 (ofZ w64 z)) ≡ natAbs z
 months-read z (inl e) = ap (λ (z : ℤ). natAbs (toZ w64 (ofZ w64 z))) e ∙ ap natAbs (sym e)
 months-read z (inr e) = ap (λ (z : ℤ). natAbs (toZ w64 (ofZ w64 z))) e ∙ ap natAbs (sym e)
-
--- ---- how large the account can be before the reconciliation's month
-
-pub entered-within : (run : ℕ) (b : SteamBook) → run ≤ 4 → BookWithin b → Within 2000000000000 (entered run b .carried .0) × RunWithin (entered run b .reconciliation .run)
-unfolding entered
-entered-within zero b m w = (let carried = w .carried in omega signed, w .runs .reconciliation)
-entered-within (suc i) b m w = (
-  within-by (b-add (b-between (w .carried)) (b-between (at (cents (pos 0)) (w .runs .dues) i (omega arith)))) tt,
-  w .runs .reconciliation,
-)

@@ -16,6 +16,8 @@ ghost use Rattle.postings.specs.Kinds.{cost, sales, bill, settle, monthEnd, adj
 ghost use Rattle.postings.specs.Ranged.{Ranged};
 ghost use Rattle.riders.specs.Posts.{StoredAs};
 ghost use Rattle.steam_rules.specs.Book.{periodOf};
+ghost use Rattle.steam_rules.specs.Settlement.{shifted};
+ghost use Rattle.steam_rules.specs.Next.{settledWith};
 ghost use Rattle.steam_rules.specs.Ranges.{PeriodWithin, BookWithin};
 ghost use Rattle.steam.specs.Stored.{effectAt, fits};
 
@@ -67,11 +69,11 @@ fn post_bill(book: SteamBook, posting: Posting) -> Posted
     requires { ⌜ BookWithin book × Ranged Book.Steam bill posting ⌝ }
     ensures { λ r. ⌜ r ≡ effectAt bill book posting ⌝ }
 {
-    let lines = steam_runs::bills::lines_of(book, posting);
-    let dues = steam_runs::bills::dues_less(book, posting, lines);
+    let lines = crate::bills::lines_of(book, posting);
+    let dues = crate::bills::dues_less(book, posting, lines);
     let mut next = book;
     next.dues = dues;
-    next.reconciliation = steam_runs::bills::reconciliation_less(book, posting, lines);
+    next.reconciliation = crate::bills::reconciliation_less(book, posting, lines);
     let line = lines.all;
     Posted {
         answer: Answer::Line(line),
@@ -79,25 +81,43 @@ fn post_bill(book: SteamBook, posting: Posting) -> Posted
     }
 }
 
-// A factor that points have no room for is filed as one out of limits, so the book is stored or refused as the rules' own would be.
+// The oldest quarter leaves, the newest enters.
+fn shifted(quarters: [Mmbtu; 4], newest: Mmbtu) -> [Mmbtu; 4]
+    ensures { λ r. ⌜ r ≡ shifted quarters newest ⌝ }
+{
+    [quarters[1], quarters[2], quarters[3], newest]
+}
+
+// The book with its quarter settled and the filed run pending.
+fn settled_with(book: SteamBook, period: Period, quarters: [Mmbtu; 4], filed: Run) -> SteamBook
+    ensures { λ r. ⌜ r ≡ settledWith book period quarters filed ⌝ }
+{
+    let mut next = book;
+    next.settled = true;
+    next.period = period;
+    next.quarters = quarters;
+    next.pending = filed;
+    next
+}
+
+// A run that no book stores is filed for one out of limits, so the book is stored or refused as the rules' own would be.
 fn post_settlement(book: SteamBook, posting: Posting) -> Posted
     requires { ⌜ BookWithin book × Ranged Book.Steam settle posting ⌝ }
     ensures { λ r. ⌜ StoredAs fits r (effectAt settle book posting) ⌝ }
 {
     let past = book.quarters;
-    let shareable = steam_settlement::shareable_of(book.period);
-    let share = steam_settlement::share_of(book.period, shareable);
+    let shared = steam_settlement::shared_of(book.period);
     let determinants = steam_settlement::determinants::determinants_of(
         book.period.sales,
         past,
         Mmbtu(posting.first),
     );
-    let factor = steam_settlement::filing::factor_for(share, determinants);
-    let period = steam_settlement::period_after(book.period, shareable, share);
-    let quarters = steam_settlement::shifted(past, book.period.sales);
+    let filed = Run::filed(shared.share, determinants.0);
+    let factor = filed.factor;
+    let quarters = shifted(past, book.period.sales);
     Posted {
         answer: Answer::Filed(factor),
-        book: steam_settlement::settled_with(book, period, quarters, Run { factor, due: share }),
+        book: settled_with(book, shared.period, quarters, filed),
     }
 }
 
@@ -106,7 +126,7 @@ fn post_month_end(book: SteamBook, posting: Posting) -> Posted
     ensures { λ r. ⌜ r ≡ effectAt monthEnd book posting ⌝ }
 {
     let run = steam_refusals::calendar::entering(book.month);
-    let mut next = steam_runs::month_ends::reconciled(steam_runs::month_ends::entered(run, book));
+    let mut next = crate::month_ends::reconciled(crate::month_ends::entered(run, book));
     next.month = riders::months::month_after(book.month);
     next.settled = false;
     Posted {
@@ -128,14 +148,12 @@ fn post_adjustment(book: SteamBook, posting: Posting) -> Posted
     }
 }
 
-// The factor is filed as a settlement's is.
+// What is carried is filed as a settlement's share is.
 fn post_reconciliation(book: SteamBook, posting: Posting) -> Posted
     requires { ⌜ BookWithin book × Ranged Book.Steam reconcile posting ⌝ }
     ensures { λ r. ⌜ StoredAs fits r (effectAt reconcile book posting) ⌝ }
 {
-    let factor = steam_settlement::filing::factor_for(book.carried, Mmbtu(posting.second));
-    let due = book.carried;
-    let run = Run { factor, due };
+    let run = Run::filed(book.carried, posting.second);
     let reconciliation = Reconciliation {
         run,
         months: posting.first as u8,
@@ -150,6 +168,7 @@ fn post_reconciliation(book: SteamBook, posting: Posting) -> Posted
     }
 }
 
+// The effect of the posting, by its kind.
 pub(crate) fn effect(book: SteamBook, posting: Posting) -> Posted
     requires { ⌜ BookWithin book × Ranged Book.Steam (kindOf (posting .kind)) posting × (unknownKind Book.Steam (posting .kind) ≡ false) ⌝ }
     ensures { λ r. ⌜ StoredAs fits r (effectAt (kindOf (posting .kind)) book posting) ⌝ }

@@ -7,8 +7,11 @@ ghost use mathlib.Core.Path.{_≡_};
 ghost use Rattle.steam_rules.specs.Book.{refused};
 ghost use Rattle.steam_rules.specs.Refusals.{postOf};
 
+mod bills;
 mod effects;
+mod month_ends;
 
+// A refusal, with the book as it was.
 fn refuse(book: SteamBook, number: u8) -> Posted
     ensures { λ r. ⌜ r ≡ refused book number ⌝ }
 {

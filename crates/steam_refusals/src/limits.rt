@@ -1,29 +1,12 @@
-// The limits of what a steam book stores.
+// The limits of a steam book, with those of its runs; those of its other parts stand with their types.
 use amounts::Cents;
 use amounts::Points;
-use steam_rules::Period;
 use steam_rules::Reconciliation;
-use steam_rules::Remainder;
 use steam_rules::SteamBook;
 ghost use mathlib.Core.Path.{_≡_};
-ghost use Rattle.steam_rules.specs.Limits.{remainderInLimits, periodInLimits, factorsInLimits, duesInLimits, reconciliationInLimits, runsInLimits, inLimits};
+ghost use Rattle.steam_rules.specs.Limits.{factorsInLimits, duesInLimits, reconciliationInLimits, runsInLimits, inLimits};
 
-fn remainder_in_limits(remainder: Remainder) -> bool
-    ensures { λ r. ⌜ r ≡ remainderInLimits remainder ⌝ }
-{
-    ints::in_range(
-        remainder.0,
-        -SteamBook::MOST_REMAINDER,
-        SteamBook::MOST_REMAINDER,
-    )
-}
-
-fn period_in_limits(period: Period) -> bool
-    ensures { λ r. ⌜ r ≡ periodInLimits period ⌝ }
-{
-    period.cost.in_limits() & (period.sales.in_limits() & remainder_in_limits(period.remainder))
-}
-
+// Whether a book may store the factors of runs 1 to 4.
 fn factors_in_limits(factors: [Points; 4]) -> bool
     ensures { λ r. ⌜ r ≡ factorsInLimits factors ⌝ }
 {
@@ -31,6 +14,7 @@ fn factors_in_limits(factors: [Points; 4]) -> bool
         & (factors[1].in_limits() & (factors[2].in_limits() & factors[3].in_limits()))
 }
 
+// Whether a book may store what is due under runs 1 to 4.
 fn dues_in_limits(dues: [Cents; 4]) -> bool
     ensures { λ r. ⌜ r ≡ duesInLimits dues ⌝ }
 {
@@ -68,7 +52,7 @@ pub fn in_limits(book: SteamBook) -> bool
         crate::calendar::settles(book.month),
         book.settled,
     )
-        & (period_in_limits(book.period)
+        & (book.period.in_limits()
             & (steam_rules::quarters_in_limits(quarters)
                 & (book.carried.in_limits() & runs_in_limits(book))))
 }

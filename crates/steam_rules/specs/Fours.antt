@@ -48,6 +48,10 @@ module _ {A : Type 0} where
   pub at : {P : A → Type 0} (d : A) {xs : List A} → Four P xs → (i : ℕ) → i < 4 → P (getD xs i d)
   at {P} d {xs} fs i h = each-at P d xs (fs .each) i (let e = fs .count in omega arith)
 
+  -- of all four, one by one
+  pub one-by-one : {P : A → Type 0} (d : A) {xs : List A} → Four P xs → P (getD xs 0 d) × P (getD xs 1 d) × P (getD xs 2 d) × P (getD xs 3 d)
+  one-by-one d fs = (at d fs 0 (omega arith), at d fs 1 (omega arith), at d fs 2 (omega arith), at d fs 3 (omega arith))
+
   each-tested : (test : A → Bool) (P : A → Type 0) → ((x : A) → test x ≡ true → P x) → (xs : List A) → all test xs ≡ true → Each P xs
   each-tested test P tells [] e = tt
   each-tested test P tells (x ∷ xs) e =

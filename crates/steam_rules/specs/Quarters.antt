@@ -3,7 +3,6 @@ use mathlib.Core.Path.{_≡_, sym, ap, _∙_}
 use mathlib.Core.Bool.{Bool, true, false, cond}
 use mathlib.Core.List.{List, [], _∷_}
 use Prim.Native.Nat.{ℕ}
-use native.Mathlib.Omega.{arith}
 use lib.IntN.{ℤ, pos, _+ℤ_}
 use lib.ListN.{length, getD}
 use Rattle.ints.specs.Ring.{solve, _:+_, _:=_, #}
@@ -12,8 +11,12 @@ use Rattle.ints.specs.Bound.{b-between, b-pos, b-add, within-by}
 use Rattle.steam_rules.specs.declared.Mmbtu.{Mmbtu}
 use Rattle.steam_rules.specs.Book.{mmbtu}
 use Rattle.steam_rules.specs.Settlement.{oldest, threeNewest, shifted, soldIn, offByFive, determinantsOf}
-use Rattle.steam_rules.specs.Fours.{Four, as-four, at}
+use Rattle.steam_rules.specs.Fours.{Four, as-four, one-by-one}
 use Rattle.steam_rules.specs.Ranges.{MmbtuWithin}
+
+-- b of a settlement, which has a range of its own (01, Posting records)
+abbrev pub AdjustmentWithin : ℤ → Type 0
+AdjustmentWithin b = Within 100000000 b
 
 abbrev pub quarterAt : List Mmbtu → ℕ → Mmbtu
 quarterAt quarters i = getD quarters i (mmbtu (pos 0))
@@ -32,12 +35,10 @@ module _ (B : ℤ) (quarters : List Mmbtu) (sold : Between (pos 0) (pos 10000000
   -- the sales of a year
   pub year-within : Within 400000000 (B +ℤ soldIn (threeNewest quarters))
   year-within =
-      let x : Between (pos 0) (pos 100000000) (quarterAt quarters 1 .0) = at (mmbtu (pos 0)) qs 1 (omega arith) in
-      let y : Between (pos 0) (pos 100000000) (quarterAt quarters 2 .0) = at (mmbtu (pos 0)) qs 2 (omega arith) in
-      let z : Between (pos 0) (pos 100000000) (quarterAt quarters 3 .0) = at (mmbtu (pos 0)) qs 3 (omega arith) in
-      between-same (ap (λ (z : ℤ). B +ℤ z) (sym (sold-three quarters (qs .count)))) (within-by (b-add (b-between sold) (b-add (b-between x) (b-add (b-between y) (b-between z)))) tt)
+      let w = one-by-one (mmbtu (pos 0)) qs in
+      between-same (ap (λ (z : ℤ). B +ℤ z) (sym (sold-three quarters (qs .count)))) (within-by (b-add (b-between sold) (b-add (b-between (w .1)) (b-add (b-between (w .2)) (b-between (w .3))))) tt)
 
-  pub determinants-within : (b : ℤ) → Within 100000000 b → Within 500000000 (determinantsOf B quarters b)
+  pub determinants-within : (b : ℤ) → AdjustmentWithin b → Within 500000000 (determinantsOf B quarters b)
   unfolding determinantsOf
   determinants-within b h = go (offByFive B (oldest quarters))
     where

@@ -67,12 +67,18 @@ remainder-within : (rem : Remainder) → remainderInLimits rem ≡ true → With
 unfolding remainderInLimits
 remainder-within rem e = inRange-true (negℤ (pos 5000)) (pos 5000) (rem .0) e
 
-period-within : (p : Period) → periodInLimits p ≡ true → PeriodWithin p
+pub period-within : (p : Period) → periodInLimits p ≡ true → PeriodWithin p
 unfolding periodInLimits
 period-within p e =
     let k = both (centsInLimits (p .cost)) _ e in
     let s = both (mmbtuInLimits (p .sales)) _ (k .1) in
     record { cost = cents-within (p .cost) (k .0); sales = mmbtu-within (p .sales) (s .0); remainder = remainder-within (p .remainder) (s .1) }
+
+pub period-yes : (p : Period) → PeriodWithin p → periodInLimits p ≡ true
+unfolding periodInLimits centsInLimits remainderInLimits
+period-yes p h =
+    let c = inRange-yes (negℤ (pos 1000000000000)) (pos 1000000000000) (p .cost .0) (h .cost) in
+    simp (c, mmbtu-yes (p .sales) (h .sales), inRange-yes (negℤ (pos 5000)) (pos 5000) (p .remainder .0) (h .remainder))
 
 reconciliation-within : (r : Reconciliation) → reconciliationInLimits r ≡ true → RunWithin (r .run)
 unfolding reconciliationInLimits

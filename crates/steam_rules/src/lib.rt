@@ -6,7 +6,7 @@ use postings::Answer;
 use riders::Run;
 ghost use mathlib.Core.Path.{_≡_};
 ghost use Rattle.steam_rules.specs.Book.{noPeriod, noReconciliation, freshOf};
-ghost use Rattle.steam_rules.specs.Limits.{mmbtuInLimits, quartersInLimits};
+ghost use Rattle.steam_rules.specs.Limits.{mmbtuInLimits, remainderInLimits, periodInLimits, quartersInLimits};
 ghost use Rattle.steam_rules.specs.Opening.{openedOf};
 
 // Sales of steam in million BTU.
@@ -61,7 +61,27 @@ impl Mmbtu {
     }
 }
 
+impl Remainder {
+    // Whether a book may store the remainder.
+    fn in_limits(self) -> bool
+        ensures { λ r. ⌜ r ≡ remainderInLimits self ⌝ }
+    {
+        ints::in_range(
+            self.0,
+            -SteamBook::MOST_REMAINDER,
+            SteamBook::MOST_REMAINDER,
+        )
+    }
+}
+
 impl Period {
+    // Whether a book may store the open quarter.
+    pub fn in_limits(self) -> bool
+        ensures { λ r. ⌜ r ≡ periodInLimits self ⌝ }
+    {
+        self.cost.in_limits() & (self.sales.in_limits() & self.remainder.in_limits())
+    }
+
     // Nothing open, and no remainder.
     fn none() -> Period
         ensures { λ r. ⌜ r ≡ noPeriod ⌝ }

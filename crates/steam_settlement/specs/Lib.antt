@@ -1,2 +1,3 @@
--- The billing determinants as the code's call gives them.
+-- The customers' share and the billing determinants as the code's calls give them.
+pub mod Shares
 pub mod Determinants

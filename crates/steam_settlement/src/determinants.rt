@@ -1,14 +1,16 @@
 // The billing determinants: the sales over which a settlement spreads the customers' share.
 use steam_rules::Mmbtu;
-use steam_rules::SteamBook;
 ghost use mathlib.Core.Path.{_≡_};
 ghost use lib.IntN.{_+ℤ_};
-ghost use Rattle.ints.specs.Range.{Within};
 ghost use Rattle.steam_rules.specs.Book.{mmbtu};
 ghost use Rattle.steam_rules.specs.Settlement.{soldIn, threeNewest, offByFive, determinantsOf};
 ghost use Rattle.steam_rules.specs.Fours.{Four};
 ghost use Rattle.steam_rules.specs.Ranges.{MmbtuWithin};
+ghost use Rattle.steam_rules.specs.Quarters.{AdjustmentWithin};
 ghost use Rattle.steam_settlement.specs.Determinants.{determinantsOr0};
+
+// The most that an adjustment is above or below 0: document 01's range of b, whatever the limit of stored sales is.
+const MOST_ADJUSTMENT: i64 = 100_000_000;
 
 // Whether sales are more than 5 percent off those of the oldest quarter.
 fn off_by_five(sales: Mmbtu, oldest: Mmbtu) -> bool
@@ -31,7 +33,7 @@ fn year_of(sales: Mmbtu, quarters: [Mmbtu; 4]) -> Mmbtu
 
 // The determinants of amounts within their limits: the adjustment is taken only where sales are that far off.
 fn determinants_within(sales: Mmbtu, quarters: [Mmbtu; 4], adjustment: Mmbtu) -> Mmbtu
-    requires { ⌜ MmbtuWithin sales × Four MmbtuWithin quarters × Within 100000000 (adjustment .0) ⌝ }
+    requires { ⌜ MmbtuWithin sales × Four MmbtuWithin quarters × AdjustmentWithin (adjustment .0) ⌝ }
     ensures { λ r. ⌜ r ≡ mmbtu (determinantsOf (sales .0) quarters (adjustment .0)) ⌝ }
 {
     let year = year_of(sales, quarters);
@@ -51,7 +53,7 @@ pub fn determinants_of(sales: Mmbtu, quarters: [Mmbtu; 4], adjustment: Mmbtu) ->
     if !steam_rules::quarters_in_limits(quarters) {
         return Mmbtu(0);
     }
-    if !ints::in_range(adjustment.0, -SteamBook::MOST_MMBTU, SteamBook::MOST_MMBTU) {
+    if !ints::in_range(adjustment.0, -MOST_ADJUSTMENT, MOST_ADJUSTMENT) {
         return Mmbtu(0);
     }
     determinants_within(sales, quarters, adjustment)

@@ -1,20 +1,17 @@
-// What a settlement works out from the quarter: the customers' share and what rounding leaves; and the past quarters after it.
+// What a settlement works out of the quarter: the customers' share and what rounding leaves; and the sales over which it is spread.
 use amounts::Cents;
-use riders::Run;
 use steam_rules::Mmbtu;
 use steam_rules::Period;
 use steam_rules::Remainder;
-use steam_rules::SteamBook;
 ghost use mathlib.Core.Path.{_≡_};
 ghost use lib.IntN.{pos};
 ghost use Rattle.amounts.specs.Amounts.{cents};
 ghost use Rattle.steam_rules.specs.Book.{remainder, periodOf};
-ghost use Rattle.steam_rules.specs.Settlement.{shareableOf, shareOf, remainderAfter, shifted};
-ghost use Rattle.steam_rules.specs.Next.{settledWith};
+ghost use Rattle.steam_rules.specs.Settlement.{shareableOf, shareOf, remainderAfter};
 ghost use Rattle.steam_rules.specs.Ranges.{PeriodWithin};
+ghost use Rattle.steam_settlement.specs.Shares.{sharedOr0};
 
 pub mod determinants;
-pub mod filing;
 
 // The customers' percentage of a variance.
 const PERCENTAGE: i64 = 80;
@@ -25,8 +22,14 @@ const BASE: i64 = 30_050;
 // Parts of a cent in which the remainder counts.
 const PARTS: i64 = 10_000;
 
+// A quarter's share and the quarter after it.
+pub struct Shared {
+    pub share: Cents,
+    pub period: Period,
+}
+
 // What is to be shared: the customers' percentage of the variance, and the remainder of the quarters before.
-pub fn shareable_of(period: Period) -> Remainder
+fn shareable_of(period: Period) -> Remainder
     requires { ⌜ PeriodWithin period ⌝ }
     ensures { λ r. ⌜ r ≡ remainder (shareableOf period) ⌝ }
 {
@@ -35,7 +38,7 @@ pub fn shareable_of(period: Period) -> Remainder
 }
 
 // The customers' share in whole cents.
-pub fn share_of(period: Period, shareable: Remainder) -> Cents
+fn share_of(period: Period, shareable: Remainder) -> Cents
     requires { ⌜ PeriodWithin period × (shareable ≡ remainder (shareableOf period)) ⌝ }
     ensures { λ r. ⌜ r ≡ cents (shareOf period) ⌝ }
 {
@@ -43,7 +46,7 @@ pub fn share_of(period: Period, shareable: Remainder) -> Cents
 }
 
 // The next quarter: nothing open, and what rounding leaves.
-pub fn period_after(period: Period, shareable: Remainder, share: Cents) -> Period
+fn period_after(period: Period, shareable: Remainder, share: Cents) -> Period
     requires { ⌜ PeriodWithin period × (shareable ≡ remainder (shareableOf period)) × (share ≡ cents (shareOf period)) ⌝ }
     ensures { λ r. ⌜ r ≡ periodOf (pos 0) (pos 0) (remainderAfter period) ⌝ }
 {
@@ -54,21 +57,20 @@ pub fn period_after(period: Period, shareable: Remainder, share: Cents) -> Perio
     }
 }
 
-// The oldest quarter leaves, the newest enters.
-pub fn shifted(quarters: [Mmbtu; 4], newest: Mmbtu) -> [Mmbtu; 4]
-    ensures { λ r. ⌜ r ≡ shifted quarters newest ⌝ }
+// Document 01's R and the next quarter for any quarter; no share, and the quarter as it was, where that is out of its limits.
+pub fn shared_of(period: Period) -> Shared
+    ensures { λ r. ⌜ r ≡ sharedOr0 period ⌝ }
 {
-    [quarters[1], quarters[2], quarters[3], newest]
-}
-
-// The book with its quarter settled and the filed run pending.
-pub fn settled_with(book: SteamBook, period: Period, quarters: [Mmbtu; 4], filed: Run) -> SteamBook
-    ensures { λ r. ⌜ r ≡ settledWith book period quarters filed ⌝ }
-{
-    let mut next = book;
-    next.settled = true;
-    next.period = period;
-    next.quarters = quarters;
-    next.pending = filed;
-    next
+    if !period.in_limits() {
+        return Shared {
+            share: Cents(0),
+            period,
+        };
+    }
+    let shareable = shareable_of(period);
+    let share = share_of(period, shareable);
+    Shared {
+        share,
+        period: period_after(period, shareable, share),
+    }
 }

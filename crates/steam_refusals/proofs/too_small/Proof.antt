@@ -1,5 +1,5 @@
 -- `too_small` is row 11 of the table: of an adjustment ten times its size is compared, of any other kind nothing. Assumes nothing.
-use mathlib.Core.Path.{_≡_, sym, ap, _∙_, subst}
+use mathlib.Core.Path.{_≡_, sym, ap, _∙_}
 use mathlib.Core.Bool.{not}
 use Prim.Native.Nat.{ℕ}
 use native.Mathlib.Omega.{arith}
@@ -32,13 +32,17 @@ size-bound c =
     let w = ranged-as Steam p (c .before .before .if1 .taken) (c .before .before .before .before .pre) in
     record { size = 10000000000; bound = rw (sized c) (b-between (w .0) .bound) }
 
+read-bound : (c : tie.After-size) → Bound (toZ w64 (c .size .result))
+unfolding size-bound
+read-bound c = record { size = 10000000000; bound = rw (toZ-pos w64 (fits64 (size-bound c) tt .sfits)) (size-bound c .bound) }
+
 cast-result : tie.Need-cast-result
 unfolding size-bound
 cast-result c = fits64 (size-bound c) tt
 
 mul-result : tie.Need-mul-result
-unfolding size-bound
-mul-result c = subst (λ (z : ℤ). SFits w64 (pos 10 *ℤ z)) (sym (toZ-pos w64 (fits64 (size-bound c) tt .sfits))) (fits64 (b-mul (b-pos 10) (size-bound c)) tt)
+unfolding read-bound
+mul-result c = fits64 (b-mul (b-pos _) (read-bound c)) tt
 
 returns : tie.Need-returns
 unfolding tooSmall kindOf size-bound

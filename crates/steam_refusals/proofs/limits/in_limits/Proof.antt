@@ -12,8 +12,8 @@ unfolding inLimits
 returns c = let b = c .before .before .before .before .before .before .before .args .book in
     let month = c .before .before .before .before .in-limits .ensures ∙ ap (λ (t : Bool). monthInLimits (b .month) t (b .settled)) (c .before .before .before .before .before .settles .ensures) in
     λ i.
-    month i && (c .before .before .before .period-in-limits .ensures i && (c .before .before .quarters-in-limits .ensures i
-    && (c .before .in-limits2 .ensures i && c .runs-in-limits .ensures i)))
+    month i && (c .before .before .before .in-limits2 .ensures i && (c .before .before .quarters-in-limits .ensures i
+    && (c .before .in-limits3 .ensures i && c .runs-in-limits .ensures i)))
 
 pub in-limits-spec : {M : Type 1} → statement M
 in-limits-spec =

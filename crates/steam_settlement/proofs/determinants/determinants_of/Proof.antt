@@ -1,22 +1,19 @@
 -- `steam_settlement::determinants::determinants_of` is D within the limits, which it tests one by one, and 0 outside. Assumes nothing.
 use mathlib.Core.Path.{_≡_, sym, _∙_}
-use mathlib.Core.Bool.{Bool, true, false}
-use lib.IntN.{ℤ, pos, negℤ}
+use mathlib.Core.Bool.{true, false}
 use mir.Syntax.{w64}
 use mir.Val.{SFits}
 use borrow.Author.Tests.{not-true, not-false}
 use borrow.Author.Needs.{needs}
 use Rattle.ints.specs.Machine.{tested-not}
-use Rattle.ints.specs.Range.{inRange, Within, inRange-true}
+use Rattle.ints.specs.Range.{inRange-true}
 use Rattle.steam_rules.specs.Book.{same-mmbtu}
 use Rattle.steam_rules.specs.Limits.{mmbtuInLimits, quartersInLimits}
+use Rattle.steam_rules.specs.Quarters.{AdjustmentWithin}
 use Rattle.steam_rules.specs.Ranges.{mmbtu-within, quarters-within}
 use Rattle.steam_settlement.proofs.determinants.determinants_of.Statement.{statement}
-use Rattle.steam_settlement.specs.Determinants.{determinantsOr0, determinantsOr0-is}
+use Rattle.steam_settlement.specs.Determinants.{adjustmentInRange, determinantsOr0, determinantsOr0-is}
 use Rattle.steam_settlement.proofs.determinants.determinants_of.Tie as tie
-
-abbrev between : ℤ → Bool
-between = inRange (negℤ (pos 100000000)) (pos 100000000)
 
 -- what each test has left, over the place in the code where it is known
 
@@ -26,10 +23,11 @@ sold c = sym (c .before .in-limits .ensures) ∙ not-false _ (c .if1 .left)
 counted : (c : tie.Else2) → quartersInLimits (c .before .before .before .before .args .quarters) ≡ true
 counted c = sym (c .before .quarters-in-limits .ensures) ∙ not-false _ (c .if2 .left)
 
-ranged : (c : tie.Else3) → Within 100000000 (c .before .before .before .before .before .before .before .args .adjustment .0)
+ranged : (c : tie.Else3) → AdjustmentWithin (c .before .before .before .before .before .before .before .args .adjustment .0)
+unfolding adjustmentInRange
 ranged c =
     let f : SFits w64 (c .before .before .before .before .before .before .before .args .adjustment .0) = search needs in
-    inRange-true _ _ _ (tested-not between f (c .before .in-range .ensures) (c .if3 .left))
+    inRange-true _ _ _ (tested-not adjustmentInRange f (c .before .in-range .ensures) (c .if3 .left))
 
 returns : tie.Need-returns
 unfolding determinantsOr0
@@ -42,9 +40,9 @@ returns-2 c = let out : quartersInLimits (c .before .before .before .before .arg
     same-mmbtu (sym (simp (sold (c .before .before), out)))
 
 returns-3 : tie.Need-returns-3
-unfolding determinantsOr0
+unfolding determinantsOr0 adjustmentInRange
 returns-3 c = let f : SFits w64 (c .before .before .before .before .before .before .before .args .adjustment .0) = search needs in
-    let out : between (c .before .before .before .before .before .before .before .args .adjustment .0) ≡ false = tested-not between f (c .before .in-range .ensures) (c .if3 .taken) in
+    let out : adjustmentInRange (c .before .before .before .before .before .before .before .args .adjustment .0) ≡ false = tested-not adjustmentInRange f (c .before .in-range .ensures) (c .if3 .taken) in
     same-mmbtu (sym (simp (sold (c .before .before .before .before .before), counted (c .before .before .before), out)))
 
 determinants-within-requires : tie.Need-determinants-within-requires

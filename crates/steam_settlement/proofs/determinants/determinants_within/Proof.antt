@@ -1,7 +1,6 @@
 -- `steam_settlement::determinants::determinants_within` is the rules': the adjustment is added where the test of the oldest quarter has it so. Assumes nothing.
 use mathlib.Core.Path.{_≡_, sym, _∙_}
 use mathlib.Core.Bool.{cond}
-use native.Mathlib.Omega.{arith}
 use lib.IntN.{pos, _+ℤ_}
 use mir.Syntax.{w64}
 use mir.Val.{toZ, ofZ}
@@ -12,13 +11,15 @@ use Rattle.ints.specs.Ring.{solve, _:+_, _:=_, #}
 use Rattle.ints.specs.Range.{Within, between-same}
 use Rattle.steam_rules.specs.Book.{mmbtu, same-mmbtu}
 use Rattle.steam_rules.specs.Settlement.{soldIn, threeNewest, determinantsOf}
-use Rattle.steam_rules.specs.Fours.{at}
+use Rattle.steam_rules.specs.Fours.{one-by-one}
 use Rattle.steam_rules.specs.Quarters.{year-within}
 use Rattle.steam_settlement.proofs.determinants.determinants_within.Statement.{statement}
 use Rattle.steam_settlement.proofs.determinants.determinants_within.Tie as tie
 
 off-by-five-requires : tie.Need-off-by-five-requires
-off-by-five-requires c κs = let w = c .before .before .pre in (w .0, at (mmbtu (pos 0)) (w .1) 0 (omega arith))
+off-by-five-requires c κs = let w = c .before .before .pre in
+    let q = one-by-one (mmbtu (pos 0)) (w .1) in
+    (w .0, search q)
 
 add-t11 : tie.Need-add-t11
 add-t11 c = let s = c .before .before .before .before .before .before .before .before .args in

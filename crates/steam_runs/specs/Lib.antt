@@ -1,2 +1,0 @@
--- What the code's steps pass on; what they mean is said in the rules.
-pub mod Lines
