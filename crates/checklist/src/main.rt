@@ -1,14 +1,11 @@
 // The field engineer's checklist: short histories of postings to fresh books, each value that was seen beside what it should be.
-mod electric_fields;
 mod electric_postings;
-mod fields;
 mod handover;
 mod print;
 mod refusal;
 mod remainders;
 mod report;
 mod sign;
-mod steam_fields;
 mod steam_postings;
 mod texts;
 

@@ -1,11 +1,11 @@
 // Refusal: a settlement in the wrong month, then on, and the book is as if it had never been posted.
-use crate::electric_fields;
 use crate::electric_postings;
 use crate::electric_postings::SECONDARY;
 use crate::report;
 use crate::report::Tally;
-use crate::steam_fields;
 use crate::steam_postings;
+use comparisons::electric_fields;
+use comparisons::steam_fields;
 use electric_rules::ElectricBook;
 use electric_rules::Posted;
 use steam_rules::SteamBook;

@@ -2,5 +2,7 @@
 use libc::STDIN_FILENO;
 
 fn main() {
-    console::run(STDIN_FILENO);
+    let mut bytes = console::input_buffer();
+    let mut text = console::output_buffer();
+    console::run(b"neapscroll", STDIN_FILENO, &mut bytes, &mut text);
 }

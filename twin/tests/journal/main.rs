@@ -9,6 +9,7 @@ mod examples;
 mod flaws;
 mod form;
 mod listed;
+mod losses;
 mod made;
 mod met;
 mod openings;

@@ -3,20 +3,27 @@
 use crate::examples::examples;
 use std::fs;
 use std::io::{ErrorKind, Read, Write};
+use std::path::Path;
 use std::process::{ChildStdin, Command, Stdio};
 use std::thread;
 use twin::comparison::first_difference;
 use twin::generate::journals::Journal;
 use twin::journal::printed;
 
-/// The program, which the twin's build makes.
-const PROGRAM: &str = concat!(env!("CARGO_MANIFEST_DIR"), "/../target/bin/neapscroll");
+/// The folder that holds the twin's folder.
+pub fn repository_top() -> &'static Path {
+    let top = Path::new(env!("CARGO_MANIFEST_DIR")).parent();
+    top.expect("the twin stands in a repository")
+}
 
-/// What the program writes for the input, which it is handed in pieces.
+/// The program, which the twin's build makes.
+pub const PROGRAM: &str = concat!(env!("CARGO_MANIFEST_DIR"), "/../target/bin/neapscroll");
+
+/// What the program writes for the input, which it is handed in pieces. Nothing is lost, so it says nothing.
 fn run(input: &[u8], piece: usize) -> Vec<u8> {
     let mut command = Command::new(PROGRAM);
     let piped = command.stdin(Stdio::piped()).stdout(Stdio::piped());
-    let started = piped.spawn();
+    let started = piped.stderr(Stdio::piped()).spawn();
     let mut program = started.unwrap_or_else(|error| panic!("{PROGRAM}: {error}"));
     let (stdin, stdout) = (program.stdin.take(), program.stdout.take());
     let mut text = Vec::new();
@@ -25,8 +32,9 @@ fn run(input: &[u8], piece: usize) -> Vec<u8> {
         let mut stdout = stdout.expect("it is piped");
         stdout.read_to_end(&mut text).expect("it can be read");
     });
-    let status = program.wait().expect("the program ends");
-    assert!(status.success(), "{status}");
+    let output = program.wait_with_output().expect("the program ends");
+    assert!(output.status.success(), "{}", output.status);
+    assert_eq!(String::from_utf8_lossy(&output.stderr), "");
     text
 }
 
