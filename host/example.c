@@ -21,19 +21,6 @@ static void print_points(neapscroll_points points)
     printf(" %.*s", (int)written.length, (const char *)text);
 }
 
-static void print_value_as_cents(int64_t value)
-{
-    neapscroll_cents cents = {value};
-    print_cents(cents);
-}
-
-/* A factor that a settlement files has 32 bits. */
-static void print_value_as_points(int64_t value)
-{
-    neapscroll_points points = {(int32_t)value};
-    print_points(points);
-}
-
 static void print_refusal(uint8_t number)
 {
     printf(" refused %u\n", (unsigned)number);
@@ -42,32 +29,32 @@ static void print_refusal(uint8_t number)
 /* Posts to an electric book, prints the answer and gives the book after it. */
 static neapscroll_electric_book electric_post(neapscroll_electric_book book, neapscroll_posting posting)
 {
-    neapscroll_electric_reply posted = neapscroll_electric_post(book, posting);
+    neapscroll_electric_reply reply = neapscroll_electric_post(book, posting);
     printf("electric %u", (unsigned)posting.kind);
-    if (posted.reply.number != NEAPSCROLL_ACCEPTED) {
-        print_refusal(posted.reply.number);
-        return posted.book;
+    if (reply.number != NEAPSCROLL_ACCEPTED) {
+        print_refusal(reply.number);
+        return reply.book;
     }
     switch (posting.kind) {
     case NEAPSCROLL_BILL:
         printf(" line");
-        print_value_as_cents(posted.reply.first);
+        print_cents(reply.line);
         break;
     case NEAPSCROLL_SETTLE:
         printf(" filed");
-        print_value_as_points(posted.reply.first);
-        print_value_as_points(posted.reply.second);
+        print_points(reply.filed.secondary);
+        print_points(reply.filed.primary);
         break;
     case NEAPSCROLL_MONTH_END:
         printf(" interest");
-        print_value_as_cents(posted.reply.first);
-        print_value_as_cents(posted.reply.second);
+        print_cents(reply.interest.secondary);
+        print_cents(reply.interest.primary);
         break;
     default:
         printf(" done");
     }
     printf("\n");
-    return posted.book;
+    return reply.book;
 }
 
 static neapscroll_electric_book electric_month_ends(neapscroll_electric_book book, int count, int64_t rate)
@@ -134,26 +121,26 @@ static void electric(void)
 /* Posts to a steam book, prints the answer and gives the book after it. */
 static neapscroll_steam_book steam_post(neapscroll_steam_book book, neapscroll_posting posting)
 {
-    neapscroll_steam_reply posted = neapscroll_steam_post(book, posting);
+    neapscroll_steam_reply reply = neapscroll_steam_post(book, posting);
     printf("steam %u", (unsigned)posting.kind);
-    if (posted.reply.number != NEAPSCROLL_ACCEPTED) {
-        print_refusal(posted.reply.number);
-        return posted.book;
+    if (reply.number != NEAPSCROLL_ACCEPTED) {
+        print_refusal(reply.number);
+        return reply.book;
     }
     switch (posting.kind) {
     case NEAPSCROLL_BILL:
         printf(" line");
-        print_value_as_cents(posted.reply.first);
+        print_cents(reply.line);
         break;
     case NEAPSCROLL_SETTLE:
         printf(" filed");
-        print_value_as_points(posted.reply.first);
+        print_points(reply.filed);
         break;
     default:
         printf(" done");
     }
     printf("\n");
-    return posted.book;
+    return reply.book;
 }
 
 static neapscroll_steam_book steam_month_ends(neapscroll_steam_book book, int count)
@@ -214,9 +201,9 @@ static void steam(void)
 static void openings(void)
 {
     printf("electric opening");
-    print_refusal(neapscroll_electric_open(2).reply.number);
+    print_refusal(neapscroll_electric_open(2).number);
     printf("steam opening");
-    print_refusal(neapscroll_steam_open(-1, 0, 0, 0).reply.number);
+    print_refusal(neapscroll_steam_open(-1, 0, 0, 0).number);
 }
 
 /* The record of a bill, written, read back, and read where none is. */

@@ -75,15 +75,22 @@ static void postings(void)
 
 static void answers(void)
 {
-    SIZE(neapscroll_reply);
-    FIELD(neapscroll_reply, number);
-    FIELD(neapscroll_reply, first);
-    FIELD(neapscroll_reply, second);
+    SIZE(neapscroll_level_cents);
+    FIELD(neapscroll_level_cents, secondary);
+    FIELD(neapscroll_level_cents, primary);
+    SIZE(neapscroll_level_points);
+    FIELD(neapscroll_level_points, secondary);
+    FIELD(neapscroll_level_points, primary);
     SIZE(neapscroll_electric_reply);
-    FIELD(neapscroll_electric_reply, reply);
+    FIELD(neapscroll_electric_reply, number);
+    FIELD(neapscroll_electric_reply, line);
+    FIELD(neapscroll_electric_reply, interest);
+    FIELD(neapscroll_electric_reply, filed);
     FIELD(neapscroll_electric_reply, book);
     SIZE(neapscroll_steam_reply);
-    FIELD(neapscroll_steam_reply, reply);
+    FIELD(neapscroll_steam_reply, number);
+    FIELD(neapscroll_steam_reply, line);
+    FIELD(neapscroll_steam_reply, filed);
     FIELD(neapscroll_steam_reply, book);
     SIZE(neapscroll_read);
     FIELD(neapscroll_read, number);

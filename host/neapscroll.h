@@ -130,25 +130,36 @@ typedef struct neapscroll_steam_book {
     neapscroll_reconciliation reconciliation;
 } neapscroll_steam_book;
 
-/*
- * The number of a refusal; or 0 and the answer's values in the order in which the journal prints them, 0 where there are
- * fewer: a bill's line in cents; a settlement's factors in points, both levels' on the electric book and one on the
- * steam book; an electric month end's interest in cents, both levels'.
- */
-typedef struct neapscroll_reply {
-    uint8_t number;
-    int64_t first;
-    int64_t second;
-} neapscroll_reply;
+/* Cents of either level. */
+typedef struct neapscroll_level_cents {
+    neapscroll_cents secondary;
+    neapscroll_cents primary;
+} neapscroll_level_cents;
 
-/* The reply and the book after it; with a refusal the book as it was. */
+/* Points of either level. */
+typedef struct neapscroll_level_points {
+    neapscroll_points secondary;
+    neapscroll_points primary;
+} neapscroll_level_points;
+
+/*
+ * What the electric book answers, and the book after it. number: 0, or the refusal's. line: cents, of a bill. interest:
+ * cents, that month's, of a month end. filed: points, the factors of a settlement. An amount that the posting's kind is
+ * not answered with is 0; with a refusal, and at opening, all are.
+ */
 typedef struct neapscroll_electric_reply {
-    neapscroll_reply reply;
+    uint8_t number;
+    neapscroll_cents line;
+    neapscroll_level_cents interest;
+    neapscroll_level_points filed;
     neapscroll_electric_book book;
 } neapscroll_electric_reply;
 
+/* What the steam book answers, likewise. line: cents, of a bill. filed: points, the factor of a settlement. */
 typedef struct neapscroll_steam_reply {
-    neapscroll_reply reply;
+    uint8_t number;
+    neapscroll_cents line;
+    neapscroll_points filed;
     neapscroll_steam_book book;
 } neapscroll_steam_reply;
 
@@ -222,8 +233,9 @@ NEAPSCROLL_SIZE(neapscroll_electric_book, 168);
 NEAPSCROLL_SIZE(neapscroll_steam_period, 24);
 NEAPSCROLL_SIZE(neapscroll_reconciliation, 24);
 NEAPSCROLL_SIZE(neapscroll_steam_book, 160);
-NEAPSCROLL_SIZE(neapscroll_reply, 24);
-NEAPSCROLL_SIZE(neapscroll_electric_reply, 192);
+NEAPSCROLL_SIZE(neapscroll_level_cents, 16);
+NEAPSCROLL_SIZE(neapscroll_level_points, 8);
+NEAPSCROLL_SIZE(neapscroll_electric_reply, 208);
 NEAPSCROLL_SIZE(neapscroll_steam_reply, 184);
 NEAPSCROLL_SIZE(neapscroll_read, 48);
 NEAPSCROLL_SIZE(neapscroll_written, 16);

@@ -2,46 +2,40 @@
 
 use crate::written::Refusal;
 
-/// The answer to a posting; its layout is that of C, as the proved functions give it.
+/// The refusal's number, 0 for none, the values answered and the book afterwards.
+///
+/// Its layout is that of C, as the proved functions give it. C has the values beside the number and
+/// the book, at the same places.
 #[repr(C)]
 #[derive(Clone, Copy, Debug, PartialEq, Eq)]
-pub struct Reply {
-    /// The refusal's number, 0 for none.
+pub struct Posted<Values, Book> {
     pub number: u8,
-    /// The answer's values in the order in which they are printed, 0 where there are fewer.
-    pub first: i64,
-    pub second: i64,
-}
-
-/// The answer and the book afterwards.
-#[repr(C)]
-#[derive(Clone, Copy, Debug, PartialEq, Eq)]
-pub struct Posted<Book> {
-    pub reply: Reply,
+    pub values: Values,
     pub book: Book,
 }
 
-/// The values answered, 0 where there are fewer than two, or a refusal with the book half changed.
-pub(crate) type Outcome = Result<[i64; 2], Refusal>;
-
-pub(crate) const DONE: Outcome = Ok([0, 0]);
+/// The values answered, or a refusal with the book half changed.
+pub(crate) type Outcome<Values> = Result<Values, Refusal>;
 
 #[inline]
-pub(crate) fn accepted<Book>([first, second]: [i64; 2], book: Book) -> Posted<Book> {
-    let reply = Reply {
-        number: 0,
-        first,
-        second,
-    };
-    Posted { reply, book }
+pub(crate) fn done<Values: Default>() -> Outcome<Values> {
+    Ok(Values::default())
 }
 
 #[inline]
-pub(crate) fn refused<Book>(number: Refusal, book: Book) -> Posted<Book> {
-    let reply = Reply {
+pub(crate) fn accepted<Values, Book>(values: Values, book: Book) -> Posted<Values, Book> {
+    Posted {
+        number: 0,
+        values,
+        book,
+    }
+}
+
+#[inline]
+pub(crate) fn refused<Values: Default, Book>(number: Refusal, book: Book) -> Posted<Values, Book> {
+    Posted {
         number: number as u8,
-        first: 0,
-        second: 0,
-    };
-    Posted { reply, book }
+        values: Values::default(),
+        book,
+    }
 }

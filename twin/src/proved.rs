@@ -1,18 +1,18 @@
 //! The proved functions of the static library, as safe functions.
 
-use crate::electric::ElectricBook;
-use crate::posted::{Posted, Reply};
+use crate::electric::{self, ElectricBook};
+use crate::posted::Posted;
 use crate::records::{Book, Posting, Read};
-use crate::steam::SteamBook;
+use crate::steam::{self, SteamBook};
 use crate::written::Written;
+use std::fmt::Debug;
 
 pub use exported::{Cents, Points, Reading, Writing};
 
 mod exported {
-    use crate::electric::ElectricBook;
-    use crate::posted::Posted;
+    use crate::electric::{self, ElectricBook};
     use crate::records::Posting;
-    use crate::steam::SteamBook;
+    use crate::steam::{self, SteamBook};
 
     /// Number 0: the posting was found, and the place is the next one.
     #[repr(C)]
@@ -52,18 +52,15 @@ mod exported {
             buffer: *mut u8,
             length: usize,
         ) -> Writing;
-        pub fn neapscroll_electric_open(division: u8) -> Posted<ElectricBook>;
-        pub fn neapscroll_electric_post(
-            book: ElectricBook,
-            posting: Posting,
-        ) -> Posted<ElectricBook>;
+        pub fn neapscroll_electric_open(division: u8) -> electric::Posted;
+        pub fn neapscroll_electric_post(book: ElectricBook, posting: Posting) -> electric::Posted;
         pub fn neapscroll_steam_open(
             first: i64,
             second: i64,
             third: i64,
             fourth: i64,
-        ) -> Posted<SteamBook>;
-        pub fn neapscroll_steam_post(book: SteamBook, posting: Posting) -> Posted<SteamBook>;
+        ) -> steam::Posted;
+        pub fn neapscroll_steam_post(book: SteamBook, posting: Posting) -> steam::Posted;
         pub fn neapscroll_journal(
             input: *const u8,
             input_length: usize,
@@ -123,21 +120,21 @@ pub fn write_record(book: Book, posting: Posting, buffer: &mut [u8]) -> Written 
 
 /// The fresh electric book of the division, as proved.
 #[inline]
-pub fn electric_open(division: u8) -> Posted<ElectricBook> {
+pub fn electric_open(division: u8) -> electric::Posted {
     // SAFETY: the function is total on bytes and touches no memory of its caller.
     posted(unsafe { exported::neapscroll_electric_open(division) })
 }
 
 /// What the posting to the electric book gives, as proved.
 #[inline]
-pub fn electric_post(book: ElectricBook, posting: Posting) -> Posted<ElectricBook> {
+pub fn electric_post(book: ElectricBook, posting: Posting) -> electric::Posted {
     // SAFETY: the function is total on books and postings and touches no memory of its caller.
     posted(unsafe { exported::neapscroll_electric_post(book, posting) })
 }
 
 /// The fresh steam book of the quarters, oldest first, as proved.
 #[inline]
-pub fn steam_open(quarters: [i64; 4]) -> Posted<SteamBook> {
+pub fn steam_open(quarters: [i64; 4]) -> steam::Posted {
     let [first, second, third, fourth] = quarters;
     // SAFETY: the function is total on 64-bit numbers and touches no memory of its caller.
     posted(unsafe { exported::neapscroll_steam_open(first, second, third, fourth) })
@@ -145,7 +142,7 @@ pub fn steam_open(quarters: [i64; 4]) -> Posted<SteamBook> {
 
 /// What the posting to the steam book gives, as proved.
 #[inline]
-pub fn steam_post(book: SteamBook, posting: Posting) -> Posted<SteamBook> {
+pub fn steam_post(book: SteamBook, posting: Posting) -> steam::Posted {
     // SAFETY: the function is total on books and postings and touches no memory of its caller.
     posted(unsafe { exported::neapscroll_steam_post(book, posting) })
 }
@@ -166,9 +163,11 @@ pub fn journal_length(input: &[u8]) -> usize {
 }
 
 #[inline]
-fn posted<Book>(posted: Posted<Book>) -> Posted<Book> {
-    if posted.reply.number != 0 {
-        refused_posting(posted.reply);
+fn posted<Values: Default + Debug + PartialEq, Book>(
+    posted: Posted<Values, Book>,
+) -> Posted<Values, Book> {
+    if posted.number != 0 {
+        refused_posting(posted.number, &posted.values);
     }
     posted
 }
@@ -224,11 +223,6 @@ fn refused_writing(writing: exported::Writing) -> Written {
 }
 
 #[cold]
-fn refused_posting(reply: Reply) {
-    let Reply {
-        number,
-        first,
-        second,
-    } = reply;
-    assert_eq!((first, second), (0, 0), "proved refusal {number}");
+fn refused_posting<Values: Default + Debug + PartialEq>(number: u8, values: &Values) {
+    assert_eq!(values, &Values::default(), "proved refusal {number}");
 }

@@ -15,7 +15,6 @@ ghost use Rattle.host.specs.Books.{bookOf};
 
 mod electric_book;
 mod journal_text;
-mod replies;
 mod steam_book;
 
 // round(a/b); a divisor below 1 gives 0.

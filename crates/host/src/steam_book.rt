@@ -1,21 +1,38 @@
 // The steam book for a host: a book goes in by value, and comes back with the reply.
-use crate::replies::Reply;
+use amounts::Cents;
+use amounts::Points;
+use postings::Answer;
 use postings::Posting;
 use steam_rules::Mmbtu;
 use steam_rules::Posted;
 use steam_rules::SteamBook;
 ghost use mathlib.Core.Path.{_≡_};
 ghost use mathlib.Core.List.{[], _∷_};
+ghost use Rattle.postings.specs.declared.Answer.the-variants.{Done};
 ghost use Rattle.steam_rules.specs.Book.{mmbtu};
 ghost use Rattle.steam_rules.specs.Opening.{openedOf};
 ghost use Rattle.steam_rules.specs.Refusals.{postOf};
-ghost use Rattle.host.specs.Replies.{steamReply};
+ghost use Rattle.host.specs.Replies.{steamReply, steamReplyOf};
 
-// The reply, and the book after it.
+// The refusal's number, or 0 and what the posting is answered with, 0 where a field does not apply; and the book after it.
 #[repr(C)]
 pub struct SteamReply {
-    pub reply: Reply,
+    pub number: u8,
+    pub line: Cents,
+    pub filed: Points,
     pub book: SteamBook,
+}
+
+// Nothing refused and nothing to say.
+fn done(book: SteamBook) -> SteamReply
+    ensures { λ r. ⌜ r ≡ steamReplyOf Done book ⌝ }
+{
+    SteamReply {
+        number: 0,
+        line: Cents(0),
+        filed: Points(0),
+        book,
+    }
 }
 
 fn reply_with(posted: Posted) -> SteamReply
@@ -23,9 +40,23 @@ fn reply_with(posted: Posted) -> SteamReply
 {
     let answer = posted.answer;
     let book = posted.book;
-    SteamReply {
-        reply: crate::replies::reply_of(answer),
-        book,
+    let mut reply = done(book);
+    match answer {
+        Answer::Line(cents) => {
+            reply.line = cents;
+            reply
+        }
+        Answer::FiledLevels(_, _) => reply,
+        Answer::Filed(points) => {
+            reply.filed = points;
+            reply
+        }
+        Answer::Interest(_, _) => reply,
+        Answer::Done => reply,
+        Answer::Refused(number) => {
+            reply.number = number;
+            reply
+        }
     }
 }
 

@@ -4,9 +4,11 @@ mod book;
 mod entry;
 mod riders;
 mod sharing;
+mod values;
 
 pub use book::*;
 pub use sharing::{share, shares_fit_variances, Open, Shared};
+pub use values::{Levels, Values};
 
 use crate::posted::{self, accepted, refused};
 use crate::records::Posting;
@@ -15,7 +17,7 @@ use crate::written::Refusal;
 use entry::Entry;
 
 /// The answer and the electric book afterwards.
-pub type Posted = posted::Posted<ElectricBook>;
+pub type Posted = posted::Posted<Values, ElectricBook>;
 
 // The proved functions are behind a C call with books by value, so for a fair benchmark these two
 // are as well, and they are never inlined.
@@ -24,7 +26,7 @@ pub type Posted = posted::Posted<ElectricBook>;
 #[inline(never)]
 pub extern "C" fn open(division: u8) -> Posted {
     match division {
-        L_AND_P | MPS => accepted([0, 0], ElectricBook::fresh(division)),
+        L_AND_P | MPS => accepted(Values::default(), ElectricBook::fresh(division)),
         _ => refused(FIELD_OUT_OF_RANGE, ElectricBook::fresh(L_AND_P)),
     }
 }

@@ -3,9 +3,10 @@
 use super::book::{kwh_within_limits, ElectricBook, Level, Sales};
 use super::entry::Entry;
 use super::sharing::{share, Open};
+use super::values::{Levels, Values};
 use crate::amounts::{answered, stored_cents, stored_factor, Run};
 use crate::calendar::{month_after, AUGUST, FEBRUARY};
-use crate::posted::{Outcome, DONE};
+use crate::posted::{done, Outcome};
 use crate::refusals::{NOTHING_SOLD, OUTSIDE_LIMITS};
 use crate::rounding::round;
 use crate::written::Refusal;
@@ -15,7 +16,7 @@ const MONTHLY_DIVISOR: i128 = 12_000_000;
 
 /// Makes the book the next one, or gives refusal 10 or 12.
 #[inline]
-pub(super) fn enter(book: &mut ElectricBook, entry: Entry) -> Outcome {
+pub(super) fn enter(book: &mut ElectricBook, entry: Entry) -> Outcome<Values> {
     match entry {
         Entry::Cost(costs) => add_cost(book, costs),
         Entry::Sales { secondary, primary } => {
@@ -28,19 +29,19 @@ pub(super) fn enter(book: &mut ElectricBook, entry: Entry) -> Outcome {
     }
 }
 
-fn add_cost(book: &mut ElectricBook, costs: [i64; 3]) -> Outcome {
+fn add_cost(book: &mut ElectricBook, costs: [i64; 3]) -> Outcome<Values> {
     let sum: i128 = costs.iter().map(|&cents| i128::from(cents)).sum();
     book.period.cost = stored_cents(i128::from(book.period.cost) + sum)?;
-    DONE
+    done()
 }
 
-fn add_sales(sales: &mut Sales, secondary: i64, primary: i64) -> Outcome {
+fn add_sales(sales: &mut Sales, secondary: i64, primary: i64) -> Outcome<Values> {
     sales.secondary = stored_kwh(i128::from(sales.secondary) + i128::from(secondary))?;
     sales.primary = stored_kwh(i128::from(sales.primary) + i128::from(primary))?;
-    DONE
+    done()
 }
 
-fn bill(level: &mut Level, kwh: i64) -> Outcome {
+fn bill(level: &mut Level, kwh: i64) -> Outcome<Values> {
     let line_of = |factors: i128| round(i128::from(kwh) * factors, 100);
     let first_factor = i128::from(level.first.factor);
     let line = line_of(first_factor + i128::from(level.second.factor));
@@ -48,10 +49,13 @@ fn bill(level: &mut Level, kwh: i64) -> Outcome {
     let second_part = line - first_part;
     level.first.due = stored_cents(i128::from(level.first.due) - first_part)?;
     level.second.due = stored_cents(i128::from(level.second.due) - second_part)?;
-    Ok([answered(line), 0])
+    Ok(Values {
+        line: answered(line),
+        ..Values::default()
+    })
 }
 
-fn settle(book: &mut ElectricBook, secondary: i64, primary: i64) -> Outcome {
+fn settle(book: &mut ElectricBook, secondary: i64, primary: i64) -> Outcome<Values> {
     let period = &mut book.period;
     let open = Open {
         cost: period.cost.into(),
@@ -67,13 +71,18 @@ fn settle(book: &mut ElectricBook, secondary: i64, primary: i64) -> Outcome {
     period.sales = Sales::default();
     period.remainder = answered(shared.remainder);
     book.settled = true;
-    let secondary_factor = file(&mut book.secondary, shared.secondary, secondary)?;
-    let primary_factor = file(&mut book.primary, shared.primary, primary)?;
-    Ok([secondary_factor, primary_factor])
+    let filed = Levels {
+        secondary: file(&mut book.secondary, shared.secondary, secondary)?,
+        primary: file(&mut book.primary, shared.primary, primary)?,
+    };
+    Ok(Values {
+        filed,
+        ..Values::default()
+    })
 }
 
 /// Makes the share and all that is carried pending, and gives the factor for the estimated sales.
-fn file(level: &mut Level, share: i128, estimated: i64) -> Result<i64, Refusal> {
+fn file(level: &mut Level, share: i128, estimated: i64) -> Result<i32, Refusal> {
     let cents = share + i128::from(level.carried) + i128::from(level.interest);
     let factor = round(100 * cents, i128::from(estimated));
     level.carried = 0;
@@ -82,18 +91,23 @@ fn file(level: &mut Level, share: i128, estimated: i64) -> Result<i64, Refusal> 
         factor: stored_factor(factor)?,
         due: stored_cents(cents)?,
     };
-    Ok(level.pending.factor.into())
+    Ok(level.pending.factor)
 }
 
-fn end_month(book: &mut ElectricBook, rate: i64) -> Outcome {
-    let secondary_interest = bear_interest(&mut book.secondary, rate)?;
-    let primary_interest = bear_interest(&mut book.primary, rate)?;
+fn end_month(book: &mut ElectricBook, rate: i64) -> Outcome<Values> {
+    let interest = Levels {
+        secondary: bear_interest(&mut book.secondary, rate)?,
+        primary: bear_interest(&mut book.primary, rate)?,
+    };
     for level in [&mut book.secondary, &mut book.primary] {
         hand_over(level, book.month)?;
     }
     book.month = month_after(book.month);
     book.settled = false;
-    Ok([secondary_interest, primary_interest])
+    Ok(Values {
+        interest,
+        ..Values::default()
+    })
 }
 
 /// Lets interest grow by the month's, and gives the month's.
@@ -116,9 +130,9 @@ fn hand_over(level: &mut Level, month: u8) -> Result<(), Refusal> {
     Ok(())
 }
 
-fn adjust(level: &mut Level, cents: i64) -> Outcome {
+fn adjust(level: &mut Level, cents: i64) -> Outcome<Values> {
     level.carried = stored_cents(i128::from(level.carried) + i128::from(cents))?;
-    DONE
+    done()
 }
 
 fn stored_kwh(kwh: i128) -> Result<i64, Refusal> {

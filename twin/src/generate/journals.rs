@@ -110,18 +110,18 @@ impl<'a> Writer<'a> {
     }
 
     /// Writes records until the end that is planned.
-    fn fill<Book: Copy>(
+    fn fill<Values, Book: Copy>(
         &mut self,
         fresh: Book,
         mut next: impl FnMut(&Book, u8) -> Posting,
-        post: extern "C" fn(Book, Posting) -> Posted<Book>,
+        post: extern "C" fn(Book, Posting) -> Posted<Values, Book>,
     ) {
         let (mut book, mut number) = (fresh, 0);
         while self.journal.bytes.len() < self.plan.length() {
             let chosen = next(&book, number);
             let posting = self.seasonal(chosen);
             let posted = post(book, posting);
-            number = posted.reply.number;
+            number = posted.number;
             if self.keeps(number.into()) {
                 self.journal.push(posting);
                 book = posted.book;

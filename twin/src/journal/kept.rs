@@ -2,7 +2,7 @@
 
 use super::lines::Answer;
 use crate::electric::{self, ElectricBook};
-use crate::posted::{Posted, Reply};
+use crate::posted::Posted;
 use crate::records::{Book, Posting, BILL, MONTH_END, SETTLE};
 use crate::steam::{self, SteamBook};
 
@@ -10,27 +10,35 @@ use crate::steam::{self, SteamBook};
 pub(super) trait Kept: Sized {
     const BOOK: Book;
 
-    fn post(self, posting: Posting) -> Posted<Self>;
+    type Values;
+
+    fn post(self, posting: Posting) -> Posted<Self::Values, Self>;
 
     /// What is printed for an accepted posting of the kind.
-    fn answer(kind: u8, reply: Reply) -> Answer;
+    fn answer(kind: u8, values: Self::Values) -> Answer;
 }
 
 impl Kept for ElectricBook {
     const BOOK: Book = Book::Electric;
 
+    type Values = electric::Values;
+
     #[inline]
-    fn post(self, posting: Posting) -> Posted<Self> {
+    fn post(self, posting: Posting) -> electric::Posted {
         electric::post(self, posting)
     }
 
     #[inline]
-    fn answer(kind: u8, reply: Reply) -> Answer {
-        let Reply { first, second, .. } = reply;
+    fn answer(kind: u8, values: electric::Values) -> Answer {
+        let electric::Values {
+            line,
+            interest,
+            filed,
+        } = values;
         match kind {
-            BILL => Answer::Line(first),
-            SETTLE => Answer::FiledByLevel(first, second),
-            MONTH_END => Answer::Interest(first, second),
+            BILL => Answer::Line(line),
+            SETTLE => Answer::FiledByLevel(filed.secondary, filed.primary),
+            MONTH_END => Answer::Interest(interest.secondary, interest.primary),
             _ => Answer::Done,
         }
     }
@@ -39,16 +47,18 @@ impl Kept for ElectricBook {
 impl Kept for SteamBook {
     const BOOK: Book = Book::Steam;
 
+    type Values = steam::Values;
+
     #[inline]
-    fn post(self, posting: Posting) -> Posted<Self> {
+    fn post(self, posting: Posting) -> steam::Posted {
         steam::post(self, posting)
     }
 
     #[inline]
-    fn answer(kind: u8, reply: Reply) -> Answer {
+    fn answer(kind: u8, values: steam::Values) -> Answer {
         match kind {
-            BILL => Answer::Line(reply.first),
-            SETTLE => Answer::Filed(reply.first),
+            BILL => Answer::Line(values.line),
+            SETTLE => Answer::Filed(values.filed),
             _ => Answer::Done,
         }
     }

@@ -8,8 +8,8 @@ pub(super) enum Answer {
     /// Cents.
     Line(i64),
     /// Points.
-    Filed(i64),
-    FiledByLevel(i64, i64),
+    Filed(i32),
+    FiledByLevel(i32, i32),
     /// Cents.
     Interest(i64, i64),
     Done,
@@ -143,9 +143,8 @@ impl Line {
 
     /// A blank and points.
     #[inline]
-    fn points(&mut self, points: i64) {
+    fn points(&mut self, points: i32) {
         self.word(b" ");
-        let points = i32::try_from(points).expect("a factor filed is within its limits");
         let written = write_points(points, &mut self.bytes[self.length..]);
         self.grow(written);
     }

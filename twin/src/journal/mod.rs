@@ -59,10 +59,10 @@ fn open(input: &[u8]) -> Result<(Opened, &[u8]), Refusal> {
         let (quarters, records) = split_quarters(rest).ok_or(FIELD_OUT_OF_RANGE)?;
         let [first, second, third, fourth] = quarters;
         let posted = steam::open(first, second, third, fourth);
-        (posted.reply.number, Opened::Steam(posted.book), records)
+        (posted.number, Opened::Steam(posted.book), records)
     } else {
         let posted = electric::open(first);
-        (posted.reply.number, Opened::Electric(posted.book), rest)
+        (posted.number, Opened::Electric(posted.book), rest)
     };
     match number {
         0 => Ok((opened, records)),
@@ -102,8 +102,8 @@ fn run<Book: Kept>(fresh: Book, records: &[u8]) -> Vec<u8> {
 /// Posts to the book and prints the line; gives the book afterwards.
 fn enter<Book: Kept>(book: Book, posting: Posting, lines: &mut Lines) -> Book {
     let posted = book.post(posting);
-    match posted.reply.number {
-        0 => lines.accepted(posting.kind, Book::answer(posting.kind, posted.reply)),
+    match posted.number {
+        0 => lines.accepted(posting.kind, Book::answer(posting.kind, posted.values)),
         number => lines.refused(posting.kind, number.into()),
     }
     posted.book

@@ -4,9 +4,11 @@ mod book;
 mod entry;
 mod riders;
 mod settlement;
+mod values;
 
 pub use book::*;
 pub use settlement::{annual_sales, share, shares_fit_variances, Open, Shared};
+pub use values::Values;
 
 use crate::posted::{self, accepted, refused};
 use crate::records::Posting;
@@ -17,7 +19,7 @@ use crate::written::Refusal;
 use entry::Entry;
 
 /// The answer and the steam book afterwards.
-pub type Posted = posted::Posted<SteamBook>;
+pub type Posted = posted::Posted<Values, SteamBook>;
 
 // The proved functions are behind a C call with books by value, so for a fair benchmark these two
 // are as well, and they are never inlined.
@@ -27,7 +29,7 @@ pub type Posted = posted::Posted<SteamBook>;
 pub extern "C" fn open(first: i64, second: i64, third: i64, fourth: i64) -> Posted {
     let quarters = [first, second, third, fourth];
     match quarters.iter().all(|&sales| sales_within_limits(sales)) {
-        true => accepted([0, 0], SteamBook::fresh(quarters)),
+        true => accepted(Values::default(), SteamBook::fresh(quarters)),
         false => refused(FIELD_OUT_OF_RANGE, SteamBook::fresh([0; 4])),
     }
 }

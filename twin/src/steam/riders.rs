@@ -3,16 +3,17 @@
 use super::book::{entering, sales_within_limits, Reconciliation, SteamBook};
 use super::entry::Entry;
 use super::settlement::{annual_sales, share, Open};
+use super::values::Values;
 use crate::amounts::{answered, stored_cents, stored_factor, Run};
 use crate::calendar::month_after;
-use crate::posted::{Outcome, DONE};
+use crate::posted::{done, Outcome};
 use crate::refusals::{ADJUSTMENT_TOO_SMALL, NOTHING_SOLD, OUTSIDE_LIMITS};
 use crate::rounding::round;
 use crate::written::Refusal;
 
 /// Makes the book the next one, or gives refusal 10, 11 or 12.
 #[inline]
-pub(super) fn enter(book: &mut SteamBook, entry: Entry) -> Outcome {
+pub(super) fn enter(book: &mut SteamBook, entry: Entry) -> Outcome<Values> {
     match entry {
         Entry::Cost(cents) => add_cost(book, cents),
         Entry::Sales(sales) => add_sales(book, sales),
@@ -24,17 +25,17 @@ pub(super) fn enter(book: &mut SteamBook, entry: Entry) -> Outcome {
     }
 }
 
-fn add_cost(book: &mut SteamBook, cents: i64) -> Outcome {
+fn add_cost(book: &mut SteamBook, cents: i64) -> Outcome<Values> {
     book.period.cost = stored_cents(i128::from(book.period.cost) + i128::from(cents))?;
-    DONE
+    done()
 }
 
-fn add_sales(book: &mut SteamBook, sales: i64) -> Outcome {
+fn add_sales(book: &mut SteamBook, sales: i64) -> Outcome<Values> {
     book.period.sales = stored_sales(i128::from(book.period.sales) + i128::from(sales))?;
-    DONE
+    done()
 }
 
-fn bill(book: &mut SteamBook, sales: i64) -> Outcome {
+fn bill(book: &mut SteamBook, sales: i64) -> Outcome<Values> {
     let mut factors = 0;
     let mut line = 0;
     // Each part is the line up to its run less the line before it, so that the parts make the line.
@@ -49,10 +50,13 @@ fn bill(book: &mut SteamBook, sales: i64) -> Outcome {
     }
     let run = &mut book.reconciliation.run;
     run.due = stored_cents(i128::from(run.due) - part(run.factor))?;
-    Ok([answered(line), 0])
+    Ok(Values {
+        line: answered(line),
+        ..Values::default()
+    })
 }
 
-fn settle(book: &mut SteamBook, adjustment: i64) -> Outcome {
+fn settle(book: &mut SteamBook, adjustment: i64) -> Outcome<Values> {
     let period = &mut book.period;
     let sold = period.sales;
     let divisor = annual_sales(sold, book.quarters, adjustment);
@@ -74,17 +78,20 @@ fn settle(book: &mut SteamBook, adjustment: i64) -> Outcome {
     let [_, second, third, newest] = book.quarters;
     book.quarters = [second, third, newest, sold];
     book.settled = true;
-    Ok([book.pending.factor.into(), 0])
+    Ok(Values {
+        filed: book.pending.factor,
+        ..Values::default()
+    })
 }
 
-fn end_month(book: &mut SteamBook) -> Outcome {
+fn end_month(book: &mut SteamBook) -> Outcome<Values> {
     let run_cents = hand_over(book);
     let reconciled_cents = lose_month(&mut book.reconciliation);
     // The account has a limit once both have joined it.
     book.carried = stored_cents(i128::from(book.carried) + run_cents + reconciled_cents)?;
     book.month = month_after(book.month);
     book.settled = false;
-    DONE
+    done()
 }
 
 /// What is pending takes the place of the run that is entered; gives the cents that were due.
@@ -115,15 +122,15 @@ fn lose_month(reconciliation: &mut Reconciliation) -> i128 {
     }
 }
 
-fn adjust(book: &mut SteamBook, cents: i64, fuel_cost: i64) -> Outcome {
+fn adjust(book: &mut SteamBook, cents: i64, fuel_cost: i64) -> Outcome<Values> {
     if 10 * i128::from(cents).abs() <= i128::from(fuel_cost) {
         return Err(ADJUSTMENT_TOO_SMALL);
     }
     book.carried = stored_cents(i128::from(book.carried) + i128::from(cents))?;
-    DONE
+    done()
 }
 
-fn reconcile(book: &mut SteamBook, months: i64, sales: i64) -> Outcome {
+fn reconcile(book: &mut SteamBook, months: i64, sales: i64) -> Outcome<Values> {
     let factor = round(100 * i128::from(book.carried), i128::from(sales));
     book.reconciliation = Reconciliation {
         run: Run {
@@ -133,7 +140,7 @@ fn reconcile(book: &mut SteamBook, months: i64, sales: i64) -> Outcome {
         months: months as u8,
     };
     book.carried = 0;
-    DONE
+    done()
 }
 
 fn stored_sales(sales: i128) -> Result<i64, Refusal> {

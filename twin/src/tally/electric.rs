@@ -1,7 +1,6 @@
 //! The tally of an electric book.
 
-use crate::electric::{share, shares_fit_variances, ElectricBook, Level, Open};
-use crate::posted::Reply;
+use crate::electric::{share, shares_fit_variances, ElectricBook, Level, Open, Posted};
 use crate::records::{Posting, ADJUST, BILL, COST, MONTH_END, SALES, SETTLE};
 use crate::rounding::round;
 
@@ -38,8 +37,8 @@ impl Tally {
     }
 
     /// Takes the next posting; of its answer only the acceptance counts, and a bill's line.
-    pub fn feed(&mut self, posting: Posting, reply: Reply) {
-        if reply.number != 0 {
+    pub fn feed(&mut self, posting: Posting, posted: &Posted) {
+        if posted.number != 0 {
             return;
         }
         let numbers = posting.numbers.map(i128::from);
@@ -49,7 +48,7 @@ impl Tally {
                 self.open.secondary += numbers[0];
                 self.open.primary += numbers[1];
             }
-            BILL => self.level(numbers[0]).billed += i128::from(reply.first),
+            BILL => self.level(numbers[0]).billed += i128::from(posted.values.line),
             SETTLE => self.settle(),
             MONTH_END => {
                 self.secondary.end_month(numbers[0]);

@@ -1,8 +1,7 @@
 //! The tally of a steam book.
 
-use crate::posted::Reply;
 use crate::records::{Posting, ADJUST, BILL, COST, MONTH_END, RECONCILE, SALES, SETTLE};
-use crate::steam::{share, shares_fit_variances, Open, SteamBook};
+use crate::steam::{share, shares_fit_variances, Open, Posted, SteamBook};
 
 /// What is open, and the sums since opening.
 #[derive(Clone, Copy, Debug, Default)]
@@ -17,15 +16,15 @@ pub struct Tally {
 
 impl Tally {
     /// Takes the next posting; of its answer only the acceptance counts, and a bill's line.
-    pub fn feed(&mut self, posting: Posting, reply: Reply) {
-        if reply.number != 0 {
+    pub fn feed(&mut self, posting: Posting, posted: &Posted) {
+        if posted.number != 0 {
             return;
         }
         let first = i128::from(posting.numbers[0]);
         match posting.kind {
             COST => self.open.cost += first,
             SALES => self.open.sales += first,
-            BILL => self.billed += i128::from(reply.first),
+            BILL => self.billed += i128::from(posted.values.line),
             SETTLE => self.settle(),
             ADJUST => self.adjustments += first,
             MONTH_END | RECONCILE => {}

@@ -1,6 +1,5 @@
 //! What a test of a book met: answers by number, and accepted postings by kind.
 
-use twin::posted::Reply;
 use twin::random::Random;
 use twin::records::Posting;
 
@@ -19,9 +18,9 @@ pub struct Met {
 }
 
 impl Met {
-    pub fn count(&mut self, posting: Posting, reply: Reply) {
-        self.numbers[usize::from(reply.number)] += 1;
-        if reply.number == 0 {
+    pub fn count(&mut self, posting: Posting, number: u8) {
+        self.numbers[usize::from(number)] += 1;
+        if number == 0 {
             self.accepted[usize::from(posting.kind)] += 1;
         }
     }

@@ -2,8 +2,7 @@
 
 use crate::sides::open;
 use twin::calendar::JUNE;
-use twin::electric::{ElectricBook, Level, Period};
-use twin::posted::Reply;
+use twin::electric::{ElectricBook, Level, Period, Values};
 
 fn fresh(division: u8) -> ElectricBook {
     ElectricBook {
@@ -18,14 +17,10 @@ fn fresh(division: u8) -> ElectricBook {
 
 #[test]
 fn both_divisions_open_in_june_with_nothing() {
-    let none = Reply {
-        number: 0,
-        first: 0,
-        second: 0,
-    };
     for division in [0, 1] {
         let opened = open(division);
-        assert_eq!((opened.reply, opened.book), (none, fresh(division)));
+        assert_eq!((opened.number, opened.values), (0, Values::default()));
+        assert_eq!(opened.book, fresh(division));
     }
 }
 
@@ -33,7 +28,7 @@ fn both_divisions_open_in_june_with_nothing() {
 fn every_other_opening_is_refused_and_hands_back_the_first_division() {
     for division in 2..=255 {
         let opened = open(division);
-        assert_eq!(opened.reply.number, 7, "opening {division}");
+        assert_eq!(opened.number, 7, "opening {division}");
         assert_eq!(opened.book, fresh(0), "opening {division}");
     }
 }

@@ -1,9 +1,8 @@
 //! Both sides of the electric book.
 
 use crate::met::LISTED;
-use twin::electric::{ElectricBook, Posted};
-use twin::posted::Reply;
-use twin::records::Posting;
+use twin::electric::{ElectricBook, Levels, Posted, Values};
+use twin::records::{Posting, BILL, MONTH_END, SETTLE};
 use twin::{electric, proved};
 
 /// The numbers that a posting can get on an electric book, 0 for none.
@@ -25,7 +24,7 @@ pub fn post(book: ElectricBook, posting: Posting, origin: &str) -> Posted {
         proved, twin,
         "proved and twin {posting:?} on {book:?}, {origin}"
     );
-    if twin.reply.number != 0 {
+    if twin.number != 0 {
         assert_eq!(twin.book, book, "refused {posting:?}, {origin}");
     }
     twin
@@ -33,21 +32,33 @@ pub fn post(book: ElectricBook, posting: Posting, origin: &str) -> Posted {
 
 /// A listed posting that must be refused with the number.
 pub fn expect_refusal(number: u8, book: ElectricBook, posting: Posting) {
-    let met = post(book, posting, LISTED).reply.number;
+    let met = post(book, posting, LISTED).number;
     assert_eq!(met, number, "{posting:?} on {book:?} and expected");
 }
 
-/// A listed posting that must be accepted with the values; gives the next book.
-pub fn expect(values: [i64; 2], book: ElectricBook, posting: Posting) -> ElectricBook {
+/// The amounts that a posting of the kind is answered with, and nothing else.
+fn answered(kind: u8, amounts: [i64; 2]) -> Values {
+    let mut values = Values::default();
+    match (kind, amounts) {
+        (BILL, [line, 0]) => values.line = line,
+        (SETTLE, factors) => {
+            let [secondary, primary] = factors.map(|factor| factor as i32);
+            values.filed = Levels { secondary, primary };
+        }
+        (MONTH_END, [secondary, primary]) => values.interest = Levels { secondary, primary },
+        (_, [0, 0]) => {}
+        _ => panic!("kind {kind} is not answered with {amounts:?}"),
+    }
+    values
+}
+
+/// A listed posting that must be accepted with the amounts; gives the next book.
+pub fn expect(amounts: [i64; 2], book: ElectricBook, posting: Posting) -> ElectricBook {
     let posted = post(book, posting, LISTED);
-    let [first, second] = values;
-    let expected = Reply {
-        number: 0,
-        first,
-        second,
-    };
+    let expected = answered(posting.kind, amounts);
     assert_eq!(
-        posted.reply, expected,
+        (posted.number, posted.values),
+        (0, expected),
         "{posting:?} on {book:?} and expected"
     );
     posted.book

@@ -3,8 +3,7 @@
 use crate::postings::{adjust, bill, cost, month_end, sales, settle};
 use twin::amounts::Run;
 use twin::calendar::{AUGUST, DECEMBER, FEBRUARY, JANUARY, JUNE};
-use twin::electric::{is_settling, post, share, ElectricBook, Open, Period, Posted};
-use twin::posted::Reply;
+use twin::electric::{is_settling, post, share, ElectricBook, Open, Period, Posted, Values};
 use twin::records::{Posting, BILL, COST, MONTH_END, SETTLE};
 use twin::rounding::{round, weight};
 use twin::tally::electric::Tally;
@@ -27,7 +26,7 @@ fn claim_on(list: &[Posting], change: Change) -> (Result<(), String>, usize) {
     let (mut settlements, mut accepted) = (0, 0);
     for &posting in list {
         let mut posted = post(book, posting);
-        if posted.reply.number == 0 {
+        if posted.number == 0 {
             let step = Step {
                 before: book,
                 posting,
@@ -35,11 +34,11 @@ fn claim_on(list: &[Posting], change: Change) -> (Result<(), String>, usize) {
             };
             change(&step, &mut posted);
         }
-        tally.feed(posting, posted.reply);
+        tally.feed(posting, &posted);
         if let Err(failure) = tally.check(&posted.book) {
             return (Err(failure), accepted);
         }
-        let taken = posted.reply.number == 0;
+        let taken = posted.number == 0;
         accepted += usize::from(taken);
         settlements += usize::from(taken && posting.kind == SETTLE);
         book = posted.book;
@@ -114,8 +113,7 @@ fn the_one_period_book_is_caught() {
             let (secondary, primary) = (step.before.secondary, step.before.primary);
             posted.book.secondary.pending = pending(secondary.carried, secondary.interest);
             posted.book.primary.pending = pending(primary.carried, primary.interest);
-            posted.reply.first = 0;
-            posted.reply.second = 0;
+            posted.values = Values::default();
         }
     };
     let mut period = vec![cost(2_000_000), sales(600_000, 400_000)];
@@ -230,11 +228,8 @@ fn parts_rounded_apart_are_caught() {
 /// The wrong book hands back the book as it was with the refusal.
 fn refuse(step: &Step, posted: &mut Posted, number: u8) {
     posted.book = step.before;
-    posted.reply = Reply {
-        number,
-        first: 0,
-        second: 0,
-    };
+    posted.number = number;
+    posted.values = Values::default();
 }
 
 #[test]
@@ -258,13 +253,13 @@ fn a_constant_bill_is_caught_if_its_runs_fall() {
     let still: Change = |step, posted| {
         if step.posting.kind == BILL {
             posted.book = step.before;
-            posted.reply.first = 0;
+            posted.values.line = 0;
         }
     };
     passes("a constant bill with still runs", &months(12), still);
     let falling: Change = |step, posted| {
         if step.posting.kind == BILL {
-            posted.reply.first = 0;
+            posted.values.line = 0;
         }
     };
     is_caught("a constant bill with runs that fall", &months(12), falling);

@@ -1,9 +1,8 @@
 //! The text of answers, slowly, with one flaw if wanted.
 
 use crate::flaws::Flaw;
-use crate::plain::Ledger;
+use crate::plain::{Ledger, Reply};
 use twin::electric::ElectricBook;
-use twin::posted::Reply;
 use twin::records::Posting;
 
 /// The fields after the kind.
@@ -11,7 +10,7 @@ pub fn answer(ledger: &Ledger, posting: Posting, reply: Reply, flaw: Flaw) -> St
     let first = posting.numbers[0];
     match (ledger, posting.kind) {
         _ if reply.number != 0 => format!("refused {}", reply.number),
-        (_, 3) => line(reply.first, flaw),
+        (_, 3) => line(reply.line, flaw),
         (Ledger::Electric(_), 4) => electric_filed(reply, flaw),
         (Ledger::Steam(_), 4) => steam_filed(reply, flaw),
         (Ledger::Electric(book), 5) => interest(book, reply, flaw),
@@ -30,7 +29,7 @@ fn line(amount: i64, flaw: Flaw) -> String {
 }
 
 fn electric_filed(reply: Reply, flaw: Flaw) -> String {
-    let [secondary, primary] = [reply.first, reply.second].map(|factor| points(factor, flaw));
+    let [secondary, primary] = reply.filed.map(|factor| points(factor, flaw));
     match flaw {
         Flaw::FactorsPrimaryFirst => format!("filed {primary} {secondary}"),
         Flaw::FactorOfOneLevel => format!("filed {secondary}"),
@@ -39,7 +38,7 @@ fn electric_filed(reply: Reply, flaw: Flaw) -> String {
 }
 
 fn steam_filed(reply: Reply, flaw: Flaw) -> String {
-    let [factor, nothing] = [reply.first, reply.second].map(|factor| points(factor, flaw));
+    let [factor, nothing] = reply.filed.map(|factor| points(factor, flaw));
     match flaw {
         Flaw::SteamFactorTwice => format!("filed {factor} {nothing}"),
         _ => format!("filed {factor}"),
@@ -48,10 +47,11 @@ fn steam_filed(reply: Reply, flaw: Flaw) -> String {
 
 /// The book is the one after the month's end.
 fn interest(book: &ElectricBook, reply: Reply, flaw: Flaw) -> String {
+    let [secondary, primary] = reply.interest;
     let amounts = match flaw {
         Flaw::InterestAccrued => [book.secondary.interest, book.primary.interest],
-        Flaw::InterestPrimaryFirst => [reply.second, reply.first],
-        _ => [reply.first, reply.second],
+        Flaw::InterestPrimaryFirst => [primary, secondary],
+        _ => [secondary, primary],
     };
     let [secondary, primary] = amounts.map(|amount| cents(amount, flaw));
     format!("interest {secondary} {primary}")
@@ -61,7 +61,8 @@ fn cents(amount: i64, flaw: Flaw) -> String {
     decimal(amount, 100, 2, flaw)
 }
 
-fn points(amount: i64, flaw: Flaw) -> String {
+fn points(amount: i32, flaw: Flaw) -> String {
+    let amount = amount.into();
     match flaw {
         Flaw::PointsLikeCents => decimal(amount, 100, 2, flaw),
         _ => decimal(amount, 10_000, 4, flaw),

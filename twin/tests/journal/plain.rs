@@ -2,8 +2,7 @@
 
 use crate::answers::answer;
 use crate::flaws::Flaw;
-use twin::electric::ElectricBook;
-use twin::posted::Reply;
+use twin::electric::{self, ElectricBook};
 use twin::proved;
 use twin::records::{Book, Posting, Read};
 use twin::steam::SteamBook;
@@ -14,6 +13,15 @@ use twin::written::Written;
 pub enum Ledger {
     Electric(ElectricBook),
     Steam(SteamBook),
+}
+
+/// What either book answers; amounts of levels are secondary first, and the steam book's factor is.
+#[derive(Clone, Copy)]
+pub struct Reply {
+    pub number: u8,
+    pub line: i64,
+    pub interest: [i64; 2],
+    pub filed: [i32; 2],
 }
 
 impl Ledger {
@@ -29,12 +37,27 @@ impl Ledger {
             Ledger::Electric(book) => {
                 let posted = proved::electric_post(*book, posting);
                 *book = posted.book;
-                posted.reply
+                let electric::Values {
+                    line,
+                    interest,
+                    filed,
+                } = posted.values;
+                Reply {
+                    number: posted.number,
+                    line,
+                    interest: [interest.secondary, interest.primary],
+                    filed: [filed.secondary, filed.primary],
+                }
             }
             Ledger::Steam(book) => {
                 let posted = proved::steam_post(*book, posting);
                 *book = posted.book;
-                posted.reply
+                Reply {
+                    number: posted.number,
+                    line: posted.values.line,
+                    interest: [0; 2],
+                    filed: [posted.values.filed, 0],
+                }
             }
         }
     }
@@ -153,7 +176,7 @@ fn steam_opened(input: &[u8], bad: u8, flaw: Flaw) -> Result<(Ledger, usize), u8
         _ => {}
     }
     let posted = proved::steam_open(quarters);
-    match posted.reply.number {
+    match posted.number {
         0 => Ok((Ledger::Steam(posted.book), 33)),
         _ => Err(bad),
     }

@@ -2,8 +2,7 @@
 
 use std::mem::offset_of;
 use twin::amounts::Run;
-use twin::electric::{self, ElectricBook, Level, Sales, L_AND_P, MPS};
-use twin::posted::{Posted, Reply};
+use twin::electric::{self, ElectricBook, Level, Levels, Sales, L_AND_P, MPS};
 use twin::proved::{Cents, Points, Reading, Writing};
 use twin::records::{Posting, ADJUST, BILL, COST, MONTH_END, RECONCILE, SALES, SETTLE};
 use twin::steam::{self, Reconciliation, SteamBook};
@@ -15,14 +14,14 @@ fn size_of_field<Struct, Field>(_: fn(&Struct) -> &Field) -> usize {
 
 /// The lines of a struct: its size, and each field's place and size. A field that C calls otherwise is `name = field`.
 macro_rules! layout {
-    ($lines:ident, $name:literal, $type:ty, [$($called:ident = $field:tt),*]) => {
+    ($lines:ident, $name:literal, $type:ty, [$($called:ident = $($field:tt).+),*]) => {
         $lines.push(format!("neapscroll_{} {}", $name, size_of::<$type>()));
         $($lines.push(format!(
             "neapscroll_{}.{} {} {}",
             $name,
             stringify!($called),
-            offset_of!($type, $field),
-            size_of_field(|value: &$type| &value.$field)
+            offset_of!($type, $($field).+),
+            size_of_field(|value: &$type| &value.$($field).+)
         ));)*
     };
     ($lines:ident, $name:literal, $type:ty, $($field:ident),*) => {
@@ -90,10 +89,33 @@ fn postings(lines: &mut Vec<String>) {
     }
 }
 
+/// The twin has the values in a struct of their own where C has them beside the number and the book.
 fn answers(lines: &mut Vec<String>) {
-    layout!(lines, "reply", Reply, number, first, second);
-    layout!(lines, "electric_reply", Posted<ElectricBook>, reply, book);
-    layout!(lines, "steam_reply", Posted<SteamBook>, reply, book);
+    layout!(lines, "level_cents", Levels<i64>, secondary, primary);
+    layout!(lines, "level_points", Levels<i32>, secondary, primary);
+    layout!(
+        lines,
+        "electric_reply",
+        electric::Posted,
+        [
+            number = number,
+            line = values.line,
+            interest = values.interest,
+            filed = values.filed,
+            book = book
+        ]
+    );
+    layout!(
+        lines,
+        "steam_reply",
+        steam::Posted,
+        [
+            number = number,
+            line = values.line,
+            filed = values.filed,
+            book = book
+        ]
+    );
     layout!(lines, "read", Reading, number, place, posting);
     layout!(lines, "written", Writing, number, length);
 }

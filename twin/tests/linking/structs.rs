@@ -4,7 +4,7 @@ use crate::c_types::c_type;
 use crate::files::{file, HEADER};
 
 /// The files that declare what a host is handed, each with those structs.
-const SOURCES: [(&str, &[&str]); 10] = [
+const SOURCES: [(&str, &[&str]); 9] = [
     ("crates/amounts/src/lib.rt", &["Cents", "Points"]),
     ("crates/postings/src/lib.rt", &["Posting"]),
     ("crates/refusals/src/lib.rt", &["Written"]),
@@ -18,8 +18,10 @@ const SOURCES: [(&str, &[&str]); 10] = [
         "crates/steam_rules/src/lib.rt",
         &["Period", "Reconciliation", "SteamBook"],
     ),
-    ("crates/host/src/replies.rt", &["Reply"]),
-    ("crates/host/src/electric_book.rt", &["ElectricReply"]),
+    (
+        "crates/host/src/electric_book.rt",
+        &["LevelCents", "LevelPoints", "ElectricReply"],
+    ),
     ("crates/host/src/steam_book.rt", &["SteamReply"]),
 ];
 

@@ -20,11 +20,6 @@ pub fn points(factor: i32) -> String {
     written(|buffer| write_points(factor, buffer))
 }
 
-/// A factor as a reply has it.
-pub fn filed(value: i64) -> String {
-    points(i32::try_from(value).expect("a factor has 32 bits"))
-}
-
 pub fn run(run: Run) -> String {
     format!("{} {}", points(run.factor), cents(run.due))
 }

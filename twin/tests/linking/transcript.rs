@@ -1,8 +1,7 @@
 //! What `host/example.c` has to print: the same postings, given to the twin.
 
-use crate::text::{cents, filed, points, run};
+use crate::text::{cents, points, run};
 use twin::electric::{self, ElectricBook, Level};
-use twin::posted::Reply;
 use twin::records::{self, Book, Posting, Read};
 use twin::records::{ADJUST, BILL, COST, MONTH_END, RECONCILE, SALES, SETTLE};
 use twin::rounding::{round_div, weight};
@@ -16,20 +15,37 @@ fn posting(kind: u8, numbers: [i64; 3]) -> Posting {
     Posting { kind, numbers }
 }
 
-/// An answer in the words of the paper's journal.
-fn answer(book: Book, kind: u8, reply: Reply) -> String {
-    let Reply {
-        number,
-        first,
-        second,
-    } = reply;
-    match (number, book, kind) {
-        (0, _, BILL) => format!("line {}", cents(first)),
-        (0, Book::Electric, SETTLE) => format!("filed {} {}", filed(first), filed(second)),
-        (0, Book::Steam, SETTLE) => format!("filed {}", filed(first)),
-        (0, Book::Electric, MONTH_END) => format!("interest {} {}", cents(first), cents(second)),
-        (0, ..) => "done".to_owned(),
-        _ => format!("refused {number}"),
+/// An answer of the electric book in the words of the paper's journal.
+fn electric_answer(kind: u8, posted: &electric::Posted) -> String {
+    let electric::Values {
+        line,
+        interest,
+        filed,
+    } = posted.values;
+    match (posted.number, kind) {
+        (0, BILL) => format!("line {}", cents(line)),
+        (0, SETTLE) => format!(
+            "filed {} {}",
+            points(filed.secondary),
+            points(filed.primary)
+        ),
+        (0, MONTH_END) => format!(
+            "interest {} {}",
+            cents(interest.secondary),
+            cents(interest.primary)
+        ),
+        (0, _) => "done".to_owned(),
+        (number, _) => format!("refused {number}"),
+    }
+}
+
+/// An answer of the steam book likewise.
+fn steam_answer(kind: u8, posted: &steam::Posted) -> String {
+    match (posted.number, kind) {
+        (0, BILL) => format!("line {}", cents(posted.values.line)),
+        (0, SETTLE) => format!("filed {}", points(posted.values.filed)),
+        (0, _) => "done".to_owned(),
+        (number, _) => format!("refused {number}"),
     }
 }
 
@@ -62,7 +78,7 @@ fn electric() -> String {
     let mut book: ElectricBook = electric::open(0).book;
     for posting in electric_postings() {
         let posted = electric::post(book, posting);
-        let answer = answer(Book::Electric, posting.kind, posted.reply);
+        let answer = electric_answer(posting.kind, &posted);
         text += &format!("electric {} {answer}\n", posting.kind);
         book = posted.book;
     }
@@ -97,7 +113,7 @@ fn steam() -> String {
     let mut book: SteamBook = steam::open(9_000, 10_000, 10_000, 10_000).book;
     for posting in steam_postings() {
         let posted = steam::post(book, posting);
-        let answer = answer(Book::Steam, posting.kind, posted.reply);
+        let answer = steam_answer(posting.kind, &posted);
         text += &format!("steam {} {answer}\n", posting.kind);
         book = posted.book;
     }
@@ -131,8 +147,8 @@ fn steam_runs(book: &SteamBook) -> String {
 }
 
 fn openings() -> String {
-    let electric = electric::open(2).reply.number;
-    let steam = steam::open(-1, 0, 0, 0).reply.number;
+    let electric = electric::open(2).number;
+    let steam = steam::open(-1, 0, 0, 0).number;
     format!("electric opening refused {electric}\nsteam opening refused {steam}\n")
 }
 

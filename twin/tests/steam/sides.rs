@@ -1,9 +1,8 @@
 //! Both sides of the steam book.
 
 use crate::met::LISTED;
-use twin::posted::Reply;
-use twin::records::Posting;
-use twin::steam::{Posted, SteamBook};
+use twin::records::{Posting, BILL, SETTLE};
+use twin::steam::{Posted, SteamBook, Values};
 use twin::{proved, steam};
 
 /// The numbers that a posting can get on a steam book, 0 for none.
@@ -24,7 +23,7 @@ pub fn open(quarters: [i64; 4]) -> Posted {
 /// The fresh book of an opening that must be accepted.
 pub fn opened(quarters: [i64; 4]) -> SteamBook {
     let posted = open(quarters);
-    assert_eq!(posted.reply.number, 0, "opening {quarters:?}");
+    assert_eq!(posted.number, 0, "opening {quarters:?}");
     posted.book
 }
 
@@ -36,14 +35,14 @@ pub fn post(book: SteamBook, posting: Posting, origin: &str) -> Posted {
         proved, twin,
         "proved and twin {posting:?} on {book:?}, {origin}"
     );
-    if twin.reply.number != 0 {
+    if twin.number != 0 {
         assert_eq!(twin.book, book, "refused {posting:?}, {origin}");
     }
     twin
 }
 
 pub fn number_of(book: SteamBook, posting: Posting) -> u8 {
-    post(book, posting, LISTED).reply.number
+    post(book, posting, LISTED).number
 }
 
 /// A listed posting that must be refused with the number.
@@ -52,16 +51,25 @@ pub fn expect_refusal(number: u8, book: SteamBook, posting: Posting) {
     assert_eq!(met, number, "{posting:?} on {book:?} and expected");
 }
 
-/// A listed posting that must be accepted with the value; gives the next book.
-pub fn expect(value: i64, book: SteamBook, posting: Posting) -> SteamBook {
+/// The amount that a posting of the kind is answered with, and nothing else.
+fn answered(kind: u8, amount: i64) -> Values {
+    let mut values = Values::default();
+    match (kind, amount) {
+        (BILL, line) => values.line = line,
+        (SETTLE, factor) => values.filed = factor as i32,
+        (_, 0) => {}
+        _ => panic!("kind {kind} is not answered with {amount}"),
+    }
+    values
+}
+
+/// A listed posting that must be accepted with the amount; gives the next book.
+pub fn expect(amount: i64, book: SteamBook, posting: Posting) -> SteamBook {
     let posted = post(book, posting, LISTED);
-    let expected = Reply {
-        number: 0,
-        first: value,
-        second: 0,
-    };
+    let expected = answered(posting.kind, amount);
     assert_eq!(
-        posted.reply, expected,
+        (posted.number, posted.values),
+        (0, expected),
         "{posting:?} on {book:?} and expected"
     );
     posted.book
@@ -71,7 +79,7 @@ pub fn expect(value: i64, book: SteamBook, posting: Posting) -> SteamBook {
 pub fn expect_all(book: SteamBook, postings: &[Posting]) -> SteamBook {
     postings.iter().fold(book, |book, &posting| {
         let posted = post(book, posting, LISTED);
-        assert_eq!(posted.reply.number, 0, "{posting:?} on {book:?}");
+        assert_eq!(posted.number, 0, "{posting:?} on {book:?}");
         posted.book
     })
 }

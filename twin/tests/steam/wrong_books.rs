@@ -3,11 +3,10 @@
 use crate::postings::{adjust, bill, cost, month_end, reconcile, sales, settle};
 use twin::amounts::Run;
 use twin::calendar::{month_after, APRIL, JANUARY};
-use twin::posted::Reply;
 use twin::records::{Posting, BILL, COST, MONTH_END, RECONCILE, SETTLE};
 use twin::rounding::round;
 use twin::steam::{
-    annual_sales, entering, is_settling, post, Period, Posted, Reconciliation, SteamBook,
+    annual_sales, entering, is_settling, post, Period, Posted, Reconciliation, SteamBook, Values,
 };
 use twin::tally::steam::Tally;
 
@@ -22,7 +21,7 @@ struct Step {
 impl Step {
     /// Whether the right book accepted a posting of the kind.
     fn took(&self, posted: &Posted, kind: u8) -> bool {
-        posted.reply.number == 0 && self.posting.kind == kind
+        posted.number == 0 && self.posting.kind == kind
     }
 }
 
@@ -44,11 +43,11 @@ fn claim_on(list: &[Posting], change: Change) -> (Result<(), String>, usize) {
             settlements,
         };
         change(&step, &mut posted);
-        tally.feed(posting, posted.reply);
+        tally.feed(posting, &posted);
         if let Err(failure) = tally.check(&posted.book) {
             return (Err(failure), accepted);
         }
-        let taken = posted.reply.number == 0;
+        let taken = posted.number == 0;
         accepted += usize::from(taken);
         settlements += usize::from(taken && posting.kind == SETTLE);
         book = posted.book;
@@ -125,7 +124,7 @@ fn the_one_period_book_is_caught() {
     let change: Change = |step, posted| {
         if step.took(posted, SETTLE) && step.settlements > 0 {
             posted.book.pending = Run::default();
-            posted.reply.first = 0;
+            posted.values = Values::default();
         }
     };
     passes(
@@ -216,13 +215,6 @@ fn parts_rounded_apart_are_caught() {
     is_caught("parts rounded apart", &months(24), change);
 }
 
-/// The answer to an accepted posting without values.
-const DONE: Reply = Reply {
-    number: 0,
-    first: 0,
-    second: 0,
-};
-
 /// Two reconciliations, of which the second comes while the first runs.
 fn two_reconciliations() -> Vec<Posting> {
     let mut list = vec![adjust(5_000), reconcile(12, 1_000), bill(3), adjust(700)];
@@ -233,7 +225,7 @@ fn two_reconciliations() -> Vec<Posting> {
 #[test]
 fn a_second_reconciliation_that_takes_the_place_of_the_first_is_caught() {
     let change: Change = |step, posted| {
-        if posted.reply.number == 9 {
+        if posted.number == 9 {
             let mut free = step.before;
             free.reconciliation = Reconciliation::default();
             *posted = post(free, step.posting);
@@ -252,11 +244,11 @@ fn a_second_reconciliation_that_takes_the_place_of_the_first_is_caught() {
 fn the_claim_lets_a_second_reconciliation_pass_that_keeps_the_cents() {
     // The cents of the first join the second, so conservation has nothing to say.
     let change: Change = |step, posted| {
-        if posted.reply.number == 9 {
+        if posted.number == 9 {
             let run = &mut posted.book.reconciliation.run;
             run.due += step.before.carried;
             posted.book.carried = 0;
-            posted.reply = DONE;
+            posted.number = 0;
         }
     };
     let list = two_reconciliations();
@@ -273,7 +265,7 @@ fn the_claim_lets_wrong_factors_pass() {
             let divisor = annual + i128::from(adjustment);
             let factor = round(100 * i128::from(posted.book.pending.due), divisor);
             posted.book.pending.factor = factor as i32;
-            posted.reply.first = factor as i64;
+            posted.values.filed = factor as i32;
         }
     };
     passes("b within 5%", &months(30), with_adjustment);
@@ -314,7 +306,8 @@ fn the_claim_lets_a_settlement_pass_that_takes_the_account_along() {
 /// The wrong book hands back the book as it was with the refusal.
 fn refuse(step: &Step, posted: &mut Posted, number: u8) {
     posted.book = step.before;
-    posted.reply = Reply { number, ..DONE };
+    posted.number = number;
+    posted.values = Values::default();
 }
 
 #[test]
@@ -335,13 +328,13 @@ fn a_constant_bill_is_caught_if_its_runs_fall() {
     let still: Change = |step, posted| {
         if step.took(posted, BILL) {
             posted.book = step.before;
-            posted.reply.first = 0;
+            posted.values.line = 0;
         }
     };
     passes("a constant bill with still runs", &months(12), still);
     let falling: Change = |step, posted| {
         if step.took(posted, BILL) {
-            posted.reply.first = 0;
+            posted.values.line = 0;
         }
     };
     is_caught("a constant bill with runs that fall", &months(12), falling);

@@ -2,7 +2,7 @@
 
 use crate::books::Measured;
 use crate::measure::add;
-use twin::electric::{is_settling, open, post, ElectricBook, Posted, L_AND_P, MPS};
+use twin::electric::{is_settling, open, post, ElectricBook, Posted, Values, L_AND_P, MPS};
 use twin::proved;
 use twin::random::Random;
 use twin::records::{Posting, ADJUST, BILL, COST, MONTH_END, SALES, SETTLE};
@@ -18,6 +18,8 @@ impl Measured for ElectricBook {
     ];
     const HISTORY: &str = "electric_history";
     const JOURNAL: &str = "electric_journal";
+
+    type Values = Values;
 
     fn fresh(random: &mut Random) -> Self {
         open(random.one_of(&[L_AND_P, MPS])).book
@@ -39,6 +41,20 @@ impl Measured for ElectricBook {
 
     fn month(&self, random: &mut Random) -> Vec<Posting> {
         month(self, random)
+    }
+
+    #[inline]
+    fn add_answer(sum: u64, values: &Values) -> u64 {
+        let amounts = [
+            values.line,
+            values.interest.secondary,
+            values.interest.primary,
+            values.filed.secondary.into(),
+            values.filed.primary.into(),
+        ];
+        amounts
+            .iter()
+            .fold(sum, |sum, &amount| add(sum, amount as u64))
     }
 
     #[inline]

@@ -6,7 +6,7 @@ use twin::journal::STEAM;
 use twin::proved;
 use twin::random::Random;
 use twin::records::{Posting, ADJUST, BILL, COST, MONTH_END, RECONCILE, SALES, SETTLE};
-use twin::steam::{is_settling, open, post, Posted, SteamBook};
+use twin::steam::{is_settling, open, post, Posted, SteamBook, Values};
 
 impl Measured for SteamBook {
     const KINDS: &[(u8, &str)] = &[
@@ -20,6 +20,8 @@ impl Measured for SteamBook {
     ];
     const HISTORY: &str = "steam_history";
     const JOURNAL: &str = "steam_journal";
+
+    type Values = Values;
 
     fn fresh(random: &mut Random) -> Self {
         let [first, second, third, fourth] = [0; 4].map(|_: i64| quarter(random));
@@ -44,6 +46,11 @@ impl Measured for SteamBook {
 
     fn month(&self, random: &mut Random) -> Vec<Posting> {
         month(self, random)
+    }
+
+    #[inline]
+    fn add_answer(sum: u64, values: &Values) -> u64 {
+        add(add(sum, values.line as u64), values.filed as u64)
     }
 
     #[inline]

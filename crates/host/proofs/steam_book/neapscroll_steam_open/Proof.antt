@@ -2,11 +2,11 @@
 use mathlib.Core.Path.{ap, _∙_}
 use mathlib.Core.List.{[], _∷_}
 use mir.Facts.{toZ-ofZ}
+use borrow.Author.Needs.{needs}
 use Rattle.steam_rules.specs.Book.{mmbtu}
 use Rattle.steam_rules.specs.Opening.{openedOf}
-use Rattle.host.specs.Replies.{steamReply}
-use borrow.Author.Needs.{needs}
 use Rattle.host.proofs.steam_book.neapscroll_steam_open.Statement.{statement}
+use Rattle.host.specs.Replies.{steamReply}
 use Rattle.host.proofs.steam_book.neapscroll_steam_open.Tie as tie
 
 returns : tie.Need-returns
