@@ -1,21 +1,21 @@
 -- What a month's end makes of the runs, over what the code stores. Assumes nothing.
 use mathlib.Core.Path.{_≡_, sym, ap, _∙_}
-use Prim.Native.Nat.{_≤_, ℕ, zero, suc, _-_}
+use Prim.Native.Nat.{ℕ, zero, suc, _-_, _≤_}
 use native.Mathlib.Omega.{arith}
-use lib.IntN.{pos, ℤ, _+ℤ_}
+use lib.IntN.{ℤ, pos, _+ℤ_}
 use lib.ListN.{set}
 use Rattle.ints.specs.Order.{signed}
 use Rattle.ints.specs.Range.{Within}
 use Rattle.ints.specs.Bound.{b-between, b-add, within-by}
-use Rattle.riders.specs.Runs.{RunWithin, noRun}
-use Rattle.steam_rules.specs.Fours.{at}
-use Rattle.steam_rules.specs.Ranges.{BookWithin}
 use Rattle.amounts.specs.Amounts.{cents}
 use Rattle.riders.specs.declared.Run.{Run}
+use Rattle.riders.specs.Runs.{noRun, RunWithin}
 use Rattle.steam_rules.specs.declared.Reconciliation.{Reconciliation}
 use Rattle.steam_rules.specs.declared.SteamBook.{SteamBook}
 use Rattle.steam_rules.specs.Book.{reconciliationOf, noReconciliation}
 use Rattle.steam_rules.specs.Next.{withAccount, entered, monthLost, reconciled}
+use Rattle.steam_rules.specs.Fours.{at}
+use Rattle.steam_rules.specs.Ranges.{BookWithin}
 use Rattle.steam.proofs.BillLines.{dueAt}
 
 -- ---- the run that enters
