@@ -40,10 +40,6 @@ run-within r e =
     let p = both (pointsInLimits (r .factor)) _ e in
     record { factor = points-within (r .factor) (p .0); due = cents-within (r .due) (p .1) }
 
-pub run-out : (r : Run) → pointsInLimits (r .factor) ≡ false → runInLimits r ≡ false
-unfolding runInLimits
-run-out r e = simp e
-
 -- a run is the same where its factor and its cents are
 pub same-run : {f g : Points} {a b : ℤ} → f ≡ g → a ≡ b → _≡_ {A = Run} (record { factor = f; due = cents a }) (record { factor = g; due = cents b })
 same-run e h = λ i. record { factor = e i; due = cents (h i) }
