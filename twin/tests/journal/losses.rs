@@ -152,7 +152,7 @@ fn other_program(name: &str) -> Command {
     CHECKED.call_once(|| {
         ended(
             Command::new("rt")
-                .args(["check", "checklist", "journals"])
+                .args(["check", "checklist", "journals", "quotients"])
                 .current_dir(repository_top()),
         );
     });
@@ -161,13 +161,21 @@ fn other_program(name: &str) -> Command {
     command
 }
 
-#[test]
-fn the_checklist_says_what_it_cannot_write() {
-    let stored = repository_top().join("crates/checklist/stdout");
+/// Holds a program to its stored text, and to what it says where none of that is taken.
+fn expect_stored(name: &str, said: &str) {
+    let stored = repository_top().join("crates").join(name).join("stdout");
     let text = fs::read(stored).expect("its text can be read");
-    let said = "checklist: not all facts could be written\n";
-    expect(&text, "", &mut other_program("checklist"));
-    expect(b"", said, other_program("checklist").stdout(full()));
+    expect(&text, "", &mut other_program(name));
+    expect(b"", said, other_program(name).stdout(full()));
+}
+
+#[test]
+fn checklist_and_quotients_say_what_they_cannot_write() {
+    expect_stored("checklist", "checklist: not all facts could be written\n");
+    expect_stored(
+        "quotients",
+        "quotients: not all quotients could be written\n",
+    );
 }
 
 #[test]
