@@ -24,7 +24,7 @@ enum neapscroll_refusal {
     NEAPSCROLL_STRAY_FIELD = 3,            /* a field, or a number other than 0, that the kind lacks */
     NEAPSCROLL_RECORD_CUT = 4,             /* fewer bytes remain than the record has */
     NEAPSCROLL_FIELD_OF_ZERO = 5,          /* a field present is 0 */
-    NEAPSCROLL_BOOK_OUTSIDE_LIMITS = 6,    /* the book handed in is one that no posting leaves */
+    NEAPSCROLL_BOOK_OUTSIDE_LIMITS = 6,    /* the book handed in stores what no book that was opened ever does */
     NEAPSCROLL_FIELD_OUT_OF_RANGE = 7,     /* also at opening */
     NEAPSCROLL_FORBIDDEN_NOW = 8,          /* the month or the settled state forbids it */
     NEAPSCROLL_RECONCILIATION_RUNS = 9,    /* reconcile while one runs */
