@@ -83,14 +83,14 @@ static void answers(void)
     FIELD(neapscroll_level_points, primary);
     SIZE(neapscroll_electric_reply);
     FIELD(neapscroll_electric_reply, number);
+    FIELD(neapscroll_electric_reply, filed);
     FIELD(neapscroll_electric_reply, line);
     FIELD(neapscroll_electric_reply, interest);
-    FIELD(neapscroll_electric_reply, filed);
     FIELD(neapscroll_electric_reply, book);
     SIZE(neapscroll_steam_reply);
     FIELD(neapscroll_steam_reply, number);
-    FIELD(neapscroll_steam_reply, line);
     FIELD(neapscroll_steam_reply, filed);
+    FIELD(neapscroll_steam_reply, line);
     FIELD(neapscroll_steam_reply, book);
     SIZE(neapscroll_read);
     FIELD(neapscroll_read, number);

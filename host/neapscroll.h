@@ -143,23 +143,23 @@ typedef struct neapscroll_level_points {
 } neapscroll_level_points;
 
 /*
- * What the electric book answers, and the book after it. number: 0, or the refusal's. line: cents, of a bill. interest:
- * cents, that month's, of a month end. filed: points, the factors of a settlement. An amount that the posting's kind is
+ * What the electric book answers, and the book after it. number: 0, or the refusal's. filed: points, the factors of a
+ * settlement. line: cents, of a bill. interest: cents, that month's, of a month end. An amount that the posting's kind is
  * not answered with is 0; with a refusal, and at opening, all are.
  */
 typedef struct neapscroll_electric_reply {
     uint8_t number;
+    neapscroll_level_points filed;
     neapscroll_cents line;
     neapscroll_level_cents interest;
-    neapscroll_level_points filed;
     neapscroll_electric_book book;
 } neapscroll_electric_reply;
 
-/* What the steam book answers, likewise. line: cents, of a bill. filed: points, the factor of a settlement. */
+/* What the steam book answers, likewise. filed: points, the factor of a settlement. line: cents, of a bill. */
 typedef struct neapscroll_steam_reply {
     uint8_t number;
-    neapscroll_cents line;
     neapscroll_points filed;
+    neapscroll_cents line;
     neapscroll_steam_book book;
 } neapscroll_steam_reply;
 
@@ -236,7 +236,7 @@ NEAPSCROLL_SIZE(neapscroll_steam_book, 160);
 NEAPSCROLL_SIZE(neapscroll_level_cents, 16);
 NEAPSCROLL_SIZE(neapscroll_level_points, 8);
 NEAPSCROLL_SIZE(neapscroll_electric_reply, 208);
-NEAPSCROLL_SIZE(neapscroll_steam_reply, 184);
+NEAPSCROLL_SIZE(neapscroll_steam_reply, 176);
 NEAPSCROLL_SIZE(neapscroll_read, 48);
 NEAPSCROLL_SIZE(neapscroll_written, 16);
 #undef NEAPSCROLL_SIZE

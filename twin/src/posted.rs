@@ -2,40 +2,38 @@
 
 use crate::written::Refusal;
 
-/// The refusal's number, 0 for none, the values answered and the book afterwards.
+/// What a book answers with: the refusal's number, 0 for none, and amounts, 0 where none applies.
+pub trait Replied: Default {
+    fn refused(number: u8) -> Self;
+    fn number(&self) -> u8;
+}
+
+/// The reply and the book afterwards.
 ///
-/// Its layout is that of C, as the proved functions give it. C has the values beside the number and
-/// the book, at the same places.
+/// Its layout is that of C, as the proved functions give it. C has the reply's fields beside the
+/// book, at the same places.
 #[repr(C)]
 #[derive(Clone, Copy, Debug, PartialEq, Eq)]
-pub struct Posted<Values, Book> {
-    pub number: u8,
-    pub values: Values,
+pub struct Posted<Reply, Book> {
+    pub reply: Reply,
     pub book: Book,
 }
 
-/// The values answered, or a refusal with the book half changed.
-pub(crate) type Outcome<Values> = Result<Values, Refusal>;
+/// The reply, or a refusal with the book half changed.
+pub(crate) type Outcome<Reply> = Result<Reply, Refusal>;
 
 #[inline]
-pub(crate) fn done<Values: Default>() -> Outcome<Values> {
-    Ok(Values::default())
+pub(crate) fn done<Reply: Default>() -> Outcome<Reply> {
+    Ok(Reply::default())
 }
 
 #[inline]
-pub(crate) fn accepted<Values, Book>(values: Values, book: Book) -> Posted<Values, Book> {
-    Posted {
-        number: 0,
-        values,
-        book,
-    }
+pub(crate) fn accepted<Reply, Book>(reply: Reply, book: Book) -> Posted<Reply, Book> {
+    Posted { reply, book }
 }
 
 #[inline]
-pub(crate) fn refused<Values: Default, Book>(number: Refusal, book: Book) -> Posted<Values, Book> {
-    Posted {
-        number: number as u8,
-        values: Values::default(),
-        book,
-    }
+pub(crate) fn refused<Reply: Replied, Book>(number: Refusal, book: Book) -> Posted<Reply, Book> {
+    let reply = Reply::refused(number as u8);
+    Posted { reply, book }
 }

@@ -1,7 +1,7 @@
 //! The proved functions of the static library, as safe functions.
 
 use crate::electric::{self, ElectricBook};
-use crate::posted::Posted;
+use crate::posted::{Posted, Replied};
 use crate::records::{Book, Posting, Read};
 use crate::steam::{self, SteamBook};
 use crate::written::Written;
@@ -163,11 +163,11 @@ pub fn journal_length(input: &[u8]) -> usize {
 }
 
 #[inline]
-fn posted<Values: Default + Debug + PartialEq, Book>(
-    posted: Posted<Values, Book>,
-) -> Posted<Values, Book> {
-    if posted.number != 0 {
-        refused_posting(posted.number, &posted.values);
+fn posted<Reply: Replied + Debug + PartialEq, Book>(
+    posted: Posted<Reply, Book>,
+) -> Posted<Reply, Book> {
+    if posted.reply.number() != 0 {
+        refused_posting(&posted.reply);
     }
     posted
 }
@@ -223,6 +223,7 @@ fn refused_writing(writing: exported::Writing) -> Written {
 }
 
 #[cold]
-fn refused_posting<Values: Default + Debug + PartialEq>(number: u8, values: &Values) {
-    assert_eq!(values, &Values::default(), "proved refusal {number}");
+fn refused_posting<Reply: Replied + Debug + PartialEq>(reply: &Reply) {
+    let number = reply.number();
+    assert_eq!(reply, &Reply::refused(number), "proved refusal {number}");
 }

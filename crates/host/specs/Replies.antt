@@ -65,10 +65,10 @@ filedIn Done = points (pos 0)
 filedIn (Refused number) = points (pos 0)
 
 abbrev pub electricReplyOf : Answer → ElectricBook → ElectricReply
-electricReplyOf answer book = record { number = answerNumber answer; line = lineIn answer; interest = interestIn answer; filed = filedLevelsIn answer; book = book }
+electricReplyOf answer book = record { number = answerNumber answer; filed = filedLevelsIn answer; line = lineIn answer; interest = interestIn answer; book = book }
 
 abbrev pub steamReplyOf : Answer → SteamBook → SteamReply
-steamReplyOf answer book = record { number = answerNumber answer; line = lineIn answer; filed = filedIn answer; book = book }
+steamReplyOf answer book = record { number = answerNumber answer; filed = filedIn answer; line = lineIn answer; book = book }
 
 abbrev pub electricReply : electric.Posted → ElectricReply
 electricReply posted = electricReplyOf (posted .answer) (posted .book)

@@ -29,9 +29,9 @@ pub struct LevelPoints {
 #[repr(C)]
 pub struct ElectricReply {
     pub number: u8,
+    pub filed: LevelPoints,
     pub line: Cents,
     pub interest: LevelCents,
-    pub filed: LevelPoints,
     pub book: ElectricBook,
 }
 
@@ -41,14 +41,14 @@ fn done(book: ElectricBook) -> ElectricReply
 {
     ElectricReply {
         number: 0,
+        filed: LevelPoints {
+            secondary: Points(0),
+            primary: Points(0),
+        },
         line: Cents(0),
         interest: LevelCents {
             secondary: Cents(0),
             primary: Cents(0),
-        },
-        filed: LevelPoints {
-            secondary: Points(0),
-            primary: Points(0),
         },
         book,
     }

@@ -14,12 +14,13 @@ ghost use Rattle.steam_rules.specs.Opening.{openedOf};
 ghost use Rattle.steam_rules.specs.Refusals.{postOf};
 ghost use Rattle.host.specs.Replies.{steamReply, steamReplyOf};
 
-// The refusal's number, or 0 and what the posting is answered with, 0 where a field does not apply; and the book after it.
+// The refusal's number, or 0 and what the posting is answered with, 0 where a field does not apply; and the book after it. No bytes lie
+// unused right before the book, since it would then be copied twice.
 #[repr(C)]
 pub struct SteamReply {
     pub number: u8,
-    pub line: Cents,
     pub filed: Points,
+    pub line: Cents,
     pub book: SteamBook,
 }
 
@@ -29,8 +30,8 @@ fn done(book: SteamBook) -> SteamReply
 {
     SteamReply {
         number: 0,
-        line: Cents(0),
         filed: Points(0),
+        line: Cents(0),
         book,
     }
 }

@@ -2,13 +2,13 @@
 
 mod book;
 mod entry;
+mod reply;
 mod riders;
 mod sharing;
-mod values;
 
 pub use book::*;
+pub use reply::{Levels, Reply};
 pub use sharing::{share, shares_fit_variances, Open, Shared};
-pub use values::{Levels, Values};
 
 use crate::posted::{self, accepted, refused};
 use crate::records::Posting;
@@ -17,7 +17,7 @@ use crate::written::Refusal;
 use entry::Entry;
 
 /// The answer and the electric book afterwards.
-pub type Posted = posted::Posted<Values, ElectricBook>;
+pub type Posted = posted::Posted<Reply, ElectricBook>;
 
 // The proved functions are behind a C call with books by value, so for a fair benchmark these two
 // are as well, and they are never inlined.
@@ -26,7 +26,7 @@ pub type Posted = posted::Posted<Values, ElectricBook>;
 #[inline(never)]
 pub extern "C" fn open(division: u8) -> Posted {
     match division {
-        L_AND_P | MPS => accepted(Values::default(), ElectricBook::fresh(division)),
+        L_AND_P | MPS => accepted(Reply::default(), ElectricBook::fresh(division)),
         _ => refused(FIELD_OUT_OF_RANGE, ElectricBook::fresh(L_AND_P)),
     }
 }
@@ -36,7 +36,7 @@ pub extern "C" fn open(division: u8) -> Posted {
 pub extern "C" fn post(book: ElectricBook, posting: Posting) -> Posted {
     let mut next = book;
     match admit(&book, posting).and_then(|entry| riders::enter(&mut next, entry)) {
-        Ok(values) => accepted(values, next),
+        Ok(reply) => accepted(reply, next),
         Err(number) => refused(number, book),
     }
 }

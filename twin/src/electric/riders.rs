@@ -2,8 +2,8 @@
 
 use super::book::{kwh_within_limits, ElectricBook, Level, Sales};
 use super::entry::Entry;
+use super::reply::{Levels, Reply};
 use super::sharing::{share, Open};
-use super::values::{Levels, Values};
 use crate::amounts::{answered, stored_cents, stored_factor, Run};
 use crate::calendar::{month_after, AUGUST, FEBRUARY};
 use crate::posted::{done, Outcome};
@@ -16,7 +16,7 @@ const MONTHLY_DIVISOR: i128 = 12_000_000;
 
 /// Makes the book the next one, or gives refusal 10 or 12.
 #[inline]
-pub(super) fn enter(book: &mut ElectricBook, entry: Entry) -> Outcome<Values> {
+pub(super) fn enter(book: &mut ElectricBook, entry: Entry) -> Outcome<Reply> {
     match entry {
         Entry::Cost(costs) => add_cost(book, costs),
         Entry::Sales { secondary, primary } => {
@@ -29,19 +29,19 @@ pub(super) fn enter(book: &mut ElectricBook, entry: Entry) -> Outcome<Values> {
     }
 }
 
-fn add_cost(book: &mut ElectricBook, costs: [i64; 3]) -> Outcome<Values> {
+fn add_cost(book: &mut ElectricBook, costs: [i64; 3]) -> Outcome<Reply> {
     let sum: i128 = costs.iter().map(|&cents| i128::from(cents)).sum();
     book.period.cost = stored_cents(i128::from(book.period.cost) + sum)?;
     done()
 }
 
-fn add_sales(sales: &mut Sales, secondary: i64, primary: i64) -> Outcome<Values> {
+fn add_sales(sales: &mut Sales, secondary: i64, primary: i64) -> Outcome<Reply> {
     sales.secondary = stored_kwh(i128::from(sales.secondary) + i128::from(secondary))?;
     sales.primary = stored_kwh(i128::from(sales.primary) + i128::from(primary))?;
     done()
 }
 
-fn bill(level: &mut Level, kwh: i64) -> Outcome<Values> {
+fn bill(level: &mut Level, kwh: i64) -> Outcome<Reply> {
     let line_of = |factors: i128| round(i128::from(kwh) * factors, 100);
     let first_factor = i128::from(level.first.factor);
     let line = line_of(first_factor + i128::from(level.second.factor));
@@ -49,13 +49,13 @@ fn bill(level: &mut Level, kwh: i64) -> Outcome<Values> {
     let second_part = line - first_part;
     level.first.due = stored_cents(i128::from(level.first.due) - first_part)?;
     level.second.due = stored_cents(i128::from(level.second.due) - second_part)?;
-    Ok(Values {
+    Ok(Reply {
         line: answered(line),
-        ..Values::default()
+        ..Reply::default()
     })
 }
 
-fn settle(book: &mut ElectricBook, secondary: i64, primary: i64) -> Outcome<Values> {
+fn settle(book: &mut ElectricBook, secondary: i64, primary: i64) -> Outcome<Reply> {
     let period = &mut book.period;
     let open = Open {
         cost: period.cost.into(),
@@ -75,9 +75,9 @@ fn settle(book: &mut ElectricBook, secondary: i64, primary: i64) -> Outcome<Valu
         secondary: file(&mut book.secondary, shared.secondary, secondary)?,
         primary: file(&mut book.primary, shared.primary, primary)?,
     };
-    Ok(Values {
+    Ok(Reply {
         filed,
-        ..Values::default()
+        ..Reply::default()
     })
 }
 
@@ -94,7 +94,7 @@ fn file(level: &mut Level, share: i128, estimated: i64) -> Result<i32, Refusal> 
     Ok(level.pending.factor)
 }
 
-fn end_month(book: &mut ElectricBook, rate: i64) -> Outcome<Values> {
+fn end_month(book: &mut ElectricBook, rate: i64) -> Outcome<Reply> {
     let interest = Levels {
         secondary: bear_interest(&mut book.secondary, rate)?,
         primary: bear_interest(&mut book.primary, rate)?,
@@ -104,9 +104,9 @@ fn end_month(book: &mut ElectricBook, rate: i64) -> Outcome<Values> {
     }
     book.month = month_after(book.month);
     book.settled = false;
-    Ok(Values {
+    Ok(Reply {
         interest,
-        ..Values::default()
+        ..Reply::default()
     })
 }
 
@@ -130,7 +130,7 @@ fn hand_over(level: &mut Level, month: u8) -> Result<(), Refusal> {
     Ok(())
 }
 
-fn adjust(level: &mut Level, cents: i64) -> Outcome<Values> {
+fn adjust(level: &mut Level, cents: i64) -> Outcome<Reply> {
     level.carried = stored_cents(i128::from(level.carried) + i128::from(cents))?;
     done()
 }

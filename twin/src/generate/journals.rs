@@ -5,7 +5,7 @@ use super::plan::{End, Opening, Plan};
 use super::{electric, steam};
 use crate::electric::{post as post_electric, ElectricBook};
 use crate::journal::STEAM;
-use crate::posted::Posted;
+use crate::posted::{Posted, Replied};
 use crate::random::Random;
 use crate::records::{Posting, ADJUST, BILL, COST, MONTH_END, SALES};
 use crate::refusals::{FIELD_LACKED_BY_KIND, UNKNOWN_KIND};
@@ -110,18 +110,18 @@ impl<'a> Writer<'a> {
     }
 
     /// Writes records until the end that is planned.
-    fn fill<Values, Book: Copy>(
+    fn fill<Reply: Replied, Book: Copy>(
         &mut self,
         fresh: Book,
         mut next: impl FnMut(&Book, u8) -> Posting,
-        post: extern "C" fn(Book, Posting) -> Posted<Values, Book>,
+        post: extern "C" fn(Book, Posting) -> Posted<Reply, Book>,
     ) {
         let (mut book, mut number) = (fresh, 0);
         while self.journal.bytes.len() < self.plan.length() {
             let chosen = next(&book, number);
             let posting = self.seasonal(chosen);
             let posted = post(book, posting);
-            number = posted.number;
+            number = posted.reply.number();
             if self.keeps(number.into()) {
                 self.journal.push(posting);
                 book = posted.book;

@@ -2,7 +2,7 @@
 
 use super::lines::Answer;
 use crate::electric::{self, ElectricBook};
-use crate::posted::Posted;
+use crate::posted::{Posted, Replied};
 use crate::records::{Book, Posting, BILL, MONTH_END, SETTLE};
 use crate::steam::{self, SteamBook};
 
@@ -10,18 +10,18 @@ use crate::steam::{self, SteamBook};
 pub(super) trait Kept: Sized {
     const BOOK: Book;
 
-    type Values;
+    type Reply: Replied;
 
-    fn post(self, posting: Posting) -> Posted<Self::Values, Self>;
+    fn post(self, posting: Posting) -> Posted<Self::Reply, Self>;
 
     /// What is printed for an accepted posting of the kind.
-    fn answer(kind: u8, values: Self::Values) -> Answer;
+    fn answer(kind: u8, reply: Self::Reply) -> Answer;
 }
 
 impl Kept for ElectricBook {
     const BOOK: Book = Book::Electric;
 
-    type Values = electric::Values;
+    type Reply = electric::Reply;
 
     #[inline]
     fn post(self, posting: Posting) -> electric::Posted {
@@ -29,12 +29,13 @@ impl Kept for ElectricBook {
     }
 
     #[inline]
-    fn answer(kind: u8, values: electric::Values) -> Answer {
-        let electric::Values {
+    fn answer(kind: u8, reply: electric::Reply) -> Answer {
+        let electric::Reply {
+            filed,
             line,
             interest,
-            filed,
-        } = values;
+            ..
+        } = reply;
         match kind {
             BILL => Answer::Line(line),
             SETTLE => Answer::FiledByLevel(filed.secondary, filed.primary),
@@ -47,7 +48,7 @@ impl Kept for ElectricBook {
 impl Kept for SteamBook {
     const BOOK: Book = Book::Steam;
 
-    type Values = steam::Values;
+    type Reply = steam::Reply;
 
     #[inline]
     fn post(self, posting: Posting) -> steam::Posted {
@@ -55,10 +56,10 @@ impl Kept for SteamBook {
     }
 
     #[inline]
-    fn answer(kind: u8, values: steam::Values) -> Answer {
+    fn answer(kind: u8, reply: steam::Reply) -> Answer {
         match kind {
-            BILL => Answer::Line(values.line),
-            SETTLE => Answer::Filed(values.filed),
+            BILL => Answer::Line(reply.line),
+            SETTLE => Answer::Filed(reply.filed),
             _ => Answer::Done,
         }
     }

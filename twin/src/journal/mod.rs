@@ -4,6 +4,7 @@ mod kept;
 mod lines;
 
 use crate::electric::{self, ElectricBook};
+use crate::posted::Replied;
 use crate::records::{read_record, Posting, Read};
 use crate::refusals::{FIELD_OUT_OF_RANGE, INPUT_ENDS};
 use crate::steam::{self, SteamBook};
@@ -59,10 +60,10 @@ fn open(input: &[u8]) -> Result<(Opened, &[u8]), Refusal> {
         let (quarters, records) = split_quarters(rest).ok_or(FIELD_OUT_OF_RANGE)?;
         let [first, second, third, fourth] = quarters;
         let posted = steam::open(first, second, third, fourth);
-        (posted.number, Opened::Steam(posted.book), records)
+        (posted.reply.number, Opened::Steam(posted.book), records)
     } else {
         let posted = electric::open(first);
-        (posted.number, Opened::Electric(posted.book), rest)
+        (posted.reply.number, Opened::Electric(posted.book), rest)
     };
     match number {
         0 => Ok((opened, records)),
@@ -102,8 +103,8 @@ fn run<Book: Kept>(fresh: Book, records: &[u8]) -> Vec<u8> {
 /// Posts to the book and prints the line; gives the book afterwards.
 fn enter<Book: Kept>(book: Book, posting: Posting, lines: &mut Lines) -> Book {
     let posted = book.post(posting);
-    match posted.number {
-        0 => lines.accepted(posting.kind, Book::answer(posting.kind, posted.values)),
+    match posted.reply.number() {
+        0 => lines.accepted(posting.kind, Book::answer(posting.kind, posted.reply)),
         number => lines.refused(posting.kind, number.into()),
     }
     posted.book

@@ -2,13 +2,13 @@
 
 mod book;
 mod entry;
+mod reply;
 mod riders;
 mod settlement;
-mod values;
 
 pub use book::*;
+pub use reply::Reply;
 pub use settlement::{annual_sales, share, shares_fit_variances, Open, Shared};
-pub use values::Values;
 
 use crate::posted::{self, accepted, refused};
 use crate::records::Posting;
@@ -19,7 +19,7 @@ use crate::written::Refusal;
 use entry::Entry;
 
 /// The answer and the steam book afterwards.
-pub type Posted = posted::Posted<Values, SteamBook>;
+pub type Posted = posted::Posted<Reply, SteamBook>;
 
 // The proved functions are behind a C call with books by value, so for a fair benchmark these two
 // are as well, and they are never inlined.
@@ -29,7 +29,7 @@ pub type Posted = posted::Posted<Values, SteamBook>;
 pub extern "C" fn open(first: i64, second: i64, third: i64, fourth: i64) -> Posted {
     let quarters = [first, second, third, fourth];
     match quarters.iter().all(|&sales| sales_within_limits(sales)) {
-        true => accepted(Values::default(), SteamBook::fresh(quarters)),
+        true => accepted(Reply::default(), SteamBook::fresh(quarters)),
         false => refused(FIELD_OUT_OF_RANGE, SteamBook::fresh([0; 4])),
     }
 }
@@ -39,7 +39,7 @@ pub extern "C" fn open(first: i64, second: i64, third: i64, fourth: i64) -> Post
 pub extern "C" fn post(book: SteamBook, posting: Posting) -> Posted {
     let mut next = book;
     match admit(&book, posting).and_then(|entry| riders::enter(&mut next, entry)) {
-        Ok(values) => accepted(values, next),
+        Ok(reply) => accepted(reply, next),
         Err(number) => refused(number, book),
     }
 }

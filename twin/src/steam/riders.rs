@@ -2,8 +2,8 @@
 
 use super::book::{entering, sales_within_limits, Reconciliation, SteamBook};
 use super::entry::Entry;
+use super::reply::Reply;
 use super::settlement::{annual_sales, share, Open};
-use super::values::Values;
 use crate::amounts::{answered, stored_cents, stored_factor, Run};
 use crate::calendar::month_after;
 use crate::posted::{done, Outcome};
@@ -13,7 +13,7 @@ use crate::written::Refusal;
 
 /// Makes the book the next one, or gives refusal 10, 11 or 12.
 #[inline]
-pub(super) fn enter(book: &mut SteamBook, entry: Entry) -> Outcome<Values> {
+pub(super) fn enter(book: &mut SteamBook, entry: Entry) -> Outcome<Reply> {
     match entry {
         Entry::Cost(cents) => add_cost(book, cents),
         Entry::Sales(sales) => add_sales(book, sales),
@@ -25,17 +25,17 @@ pub(super) fn enter(book: &mut SteamBook, entry: Entry) -> Outcome<Values> {
     }
 }
 
-fn add_cost(book: &mut SteamBook, cents: i64) -> Outcome<Values> {
+fn add_cost(book: &mut SteamBook, cents: i64) -> Outcome<Reply> {
     book.period.cost = stored_cents(i128::from(book.period.cost) + i128::from(cents))?;
     done()
 }
 
-fn add_sales(book: &mut SteamBook, sales: i64) -> Outcome<Values> {
+fn add_sales(book: &mut SteamBook, sales: i64) -> Outcome<Reply> {
     book.period.sales = stored_sales(i128::from(book.period.sales) + i128::from(sales))?;
     done()
 }
 
-fn bill(book: &mut SteamBook, sales: i64) -> Outcome<Values> {
+fn bill(book: &mut SteamBook, sales: i64) -> Outcome<Reply> {
     let mut factors = 0;
     let mut line = 0;
     // Each part is the line up to its run less the line before it, so that the parts make the line.
@@ -50,13 +50,13 @@ fn bill(book: &mut SteamBook, sales: i64) -> Outcome<Values> {
     }
     let run = &mut book.reconciliation.run;
     run.due = stored_cents(i128::from(run.due) - part(run.factor))?;
-    Ok(Values {
+    Ok(Reply {
         line: answered(line),
-        ..Values::default()
+        ..Reply::default()
     })
 }
 
-fn settle(book: &mut SteamBook, adjustment: i64) -> Outcome<Values> {
+fn settle(book: &mut SteamBook, adjustment: i64) -> Outcome<Reply> {
     let period = &mut book.period;
     let sold = period.sales;
     let divisor = annual_sales(sold, book.quarters, adjustment);
@@ -78,13 +78,13 @@ fn settle(book: &mut SteamBook, adjustment: i64) -> Outcome<Values> {
     let [_, second, third, newest] = book.quarters;
     book.quarters = [second, third, newest, sold];
     book.settled = true;
-    Ok(Values {
+    Ok(Reply {
         filed: book.pending.factor,
-        ..Values::default()
+        ..Reply::default()
     })
 }
 
-fn end_month(book: &mut SteamBook) -> Outcome<Values> {
+fn end_month(book: &mut SteamBook) -> Outcome<Reply> {
     let run_cents = hand_over(book);
     let reconciled_cents = lose_month(&mut book.reconciliation);
     // The account has a limit once both have joined it.
@@ -122,7 +122,7 @@ fn lose_month(reconciliation: &mut Reconciliation) -> i128 {
     }
 }
 
-fn adjust(book: &mut SteamBook, cents: i64, fuel_cost: i64) -> Outcome<Values> {
+fn adjust(book: &mut SteamBook, cents: i64, fuel_cost: i64) -> Outcome<Reply> {
     if 10 * i128::from(cents).abs() <= i128::from(fuel_cost) {
         return Err(ADJUSTMENT_TOO_SMALL);
     }
@@ -130,7 +130,7 @@ fn adjust(book: &mut SteamBook, cents: i64, fuel_cost: i64) -> Outcome<Values> {
     done()
 }
 
-fn reconcile(book: &mut SteamBook, months: i64, sales: i64) -> Outcome<Values> {
+fn reconcile(book: &mut SteamBook, months: i64, sales: i64) -> Outcome<Reply> {
     let factor = round(100 * i128::from(book.carried), i128::from(sales));
     book.reconciliation = Reconciliation {
         run: Run {

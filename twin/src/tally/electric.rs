@@ -38,7 +38,7 @@ impl Tally {
 
     /// Takes the next posting; of its answer only the acceptance counts, and a bill's line.
     pub fn feed(&mut self, posting: Posting, posted: &Posted) {
-        if posted.number != 0 {
+        if posted.reply.number != 0 {
             return;
         }
         let numbers = posting.numbers.map(i128::from);
@@ -48,7 +48,7 @@ impl Tally {
                 self.open.secondary += numbers[0];
                 self.open.primary += numbers[1];
             }
-            BILL => self.level(numbers[0]).billed += i128::from(posted.values.line),
+            BILL => self.level(numbers[0]).billed += i128::from(posted.reply.line),
             SETTLE => self.settle(),
             MONTH_END => {
                 self.secondary.end_month(numbers[0]);

@@ -17,14 +17,14 @@ pub struct Tally {
 impl Tally {
     /// Takes the next posting; of its answer only the acceptance counts, and a bill's line.
     pub fn feed(&mut self, posting: Posting, posted: &Posted) {
-        if posted.number != 0 {
+        if posted.reply.number != 0 {
             return;
         }
         let first = i128::from(posting.numbers[0]);
         match posting.kind {
             COST => self.open.cost += first,
             SALES => self.open.sales += first,
-            BILL => self.billed += i128::from(posted.values.line),
+            BILL => self.billed += i128::from(posted.reply.line),
             SETTLE => self.settle(),
             ADJUST => self.adjustments += first,
             MONTH_END | RECONCILE => {}

@@ -22,13 +22,13 @@ struct AtLimits {
 
 impl AtLimits {
     fn count(&mut self, before: &Posted, posting: Posting, after: &Posted) {
-        if after.number == 0 {
+        if after.reply.number == 0 {
             for (counts, value) in self.at.iter_mut().zip(&STORED) {
                 let number = value.get(after.book);
                 counts[0] += usize::from(number == value.low);
                 counts[1] += usize::from(number == value.high);
             }
-        } else if after.number == 12 {
+        } else if after.reply.number == 12 {
             self.count_past(before, posting);
         }
     }
@@ -77,14 +77,14 @@ fn run(seed: u64, limits: &mut AtLimits) -> Met {
     let mut last = open(division);
     let mut tally = Tally::new(division);
     for index in 0..POSTINGS {
-        let posting = driver.next(&last.book, last.number);
+        let posting = driver.next(&last.book, last.reply.number);
         let next = post(last.book, posting, &format!("posting {index}, {origin}"));
         tally.feed(posting, &next);
         if let Err(failure) = tally.check(&next.book) {
             panic!("{failure}\nafter {posting:?} on {last:?}, posting {index}, {origin}");
         }
         limits.count(&last, posting, &next);
-        met.count(posting, next.number);
+        met.count(posting, next.reply.number);
         last = next;
     }
     for (kind, least) in [(MONTH_END, 500), (SETTLE, 80)] {

@@ -31,7 +31,7 @@ fn a_stored_value_past_its_limit_is_refused_and_at_its_limit_is_not() {
         // The ends of 32 bits are wild to a factor, and amounts like others to cents.
         for number in [i32::MIN, i32::MAX].map(i64::from) {
             let fits = (value.low..=value.high).contains(&number);
-            let met = post(with(number), nothing(), LISTED).number;
+            let met = post(with(number), nothing(), LISTED).reply.number;
             assert_eq!(met == 0, fits, "{} at {number}", value.name);
         }
     }
@@ -50,7 +50,7 @@ fn month_division_and_settled_have_their_limits() {
             book.settled = settled;
             let fits =
                 (1..=12).contains(&month) && division < 2 && (!settled || [5, 11].contains(&month));
-            let number = post(book, nothing(), LISTED).number;
+            let number = post(book, nothing(), LISTED).reply.number;
             assert_eq!(number, if fits { 0 } else { 6 }, "{book:?}");
         }
     }
@@ -69,7 +69,7 @@ fn book(month: u8, values: &[(&str, i64)]) -> ElectricBook {
 /// Holds a posting to be accepted and to leave the number stored under the name.
 fn lands(book: ElectricBook, posting: Posting, name: &str, number: i64) {
     let posted = post(book, posting, LISTED);
-    assert_eq!(posted.number, 0, "{posting:?} on {book:?}");
+    assert_eq!(posted.reply.number, 0, "{posting:?} on {book:?}");
     let met = stored(name).get(posted.book);
     assert_eq!(met, number, "{name} after {posting:?} on {book:?}");
 }

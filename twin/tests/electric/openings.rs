@@ -2,7 +2,7 @@
 
 use crate::sides::open;
 use twin::calendar::JUNE;
-use twin::electric::{ElectricBook, Level, Period, Values};
+use twin::electric::{ElectricBook, Level, Period, Reply};
 
 fn fresh(division: u8) -> ElectricBook {
     ElectricBook {
@@ -19,7 +19,7 @@ fn fresh(division: u8) -> ElectricBook {
 fn both_divisions_open_in_june_with_nothing() {
     for division in [0, 1] {
         let opened = open(division);
-        assert_eq!((opened.number, opened.values), (0, Values::default()));
+        assert_eq!(opened.reply, Reply::default());
         assert_eq!(opened.book, fresh(division));
     }
 }
@@ -28,7 +28,7 @@ fn both_divisions_open_in_june_with_nothing() {
 fn every_other_opening_is_refused_and_hands_back_the_first_division() {
     for division in 2..=255 {
         let opened = open(division);
-        assert_eq!(opened.number, 7, "opening {division}");
+        assert_eq!(opened.reply.number, 7, "opening {division}");
         assert_eq!(opened.book, fresh(0), "opening {division}");
     }
 }

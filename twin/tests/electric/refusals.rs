@@ -39,7 +39,7 @@ fn book_for(kind: u8) -> ElectricBook {
 }
 
 fn number_of(book: ElectricBook, posting: Posting) -> u8 {
-    post(book, posting, LISTED).number
+    post(book, posting, LISTED).reply.number
 }
 
 #[test]

@@ -1,7 +1,7 @@
 //! Both sides of the electric book.
 
 use crate::met::LISTED;
-use twin::electric::{ElectricBook, Levels, Posted, Values};
+use twin::electric::{ElectricBook, Levels, Posted, Reply};
 use twin::records::{Posting, BILL, MONTH_END, SETTLE};
 use twin::{electric, proved};
 
@@ -24,7 +24,7 @@ pub fn post(book: ElectricBook, posting: Posting, origin: &str) -> Posted {
         proved, twin,
         "proved and twin {posting:?} on {book:?}, {origin}"
     );
-    if twin.number != 0 {
+    if twin.reply.number != 0 {
         assert_eq!(twin.book, book, "refused {posting:?}, {origin}");
     }
     twin
@@ -32,24 +32,24 @@ pub fn post(book: ElectricBook, posting: Posting, origin: &str) -> Posted {
 
 /// A listed posting that must be refused with the number.
 pub fn expect_refusal(number: u8, book: ElectricBook, posting: Posting) {
-    let met = post(book, posting, LISTED).number;
+    let met = post(book, posting, LISTED).reply.number;
     assert_eq!(met, number, "{posting:?} on {book:?} and expected");
 }
 
 /// The amounts that a posting of the kind is answered with, and nothing else.
-fn answered(kind: u8, amounts: [i64; 2]) -> Values {
-    let mut values = Values::default();
+fn answered(kind: u8, amounts: [i64; 2]) -> Reply {
+    let mut reply = Reply::default();
     match (kind, amounts) {
-        (BILL, [line, 0]) => values.line = line,
+        (BILL, [line, 0]) => reply.line = line,
         (SETTLE, factors) => {
             let [secondary, primary] = factors.map(|factor| factor as i32);
-            values.filed = Levels { secondary, primary };
+            reply.filed = Levels { secondary, primary };
         }
-        (MONTH_END, [secondary, primary]) => values.interest = Levels { secondary, primary },
+        (MONTH_END, [secondary, primary]) => reply.interest = Levels { secondary, primary },
         (_, [0, 0]) => {}
         _ => panic!("kind {kind} is not answered with {amounts:?}"),
     }
-    values
+    reply
 }
 
 /// A listed posting that must be accepted with the amounts; gives the next book.
@@ -57,8 +57,7 @@ pub fn expect(amounts: [i64; 2], book: ElectricBook, posting: Posting) -> Electr
     let posted = post(book, posting, LISTED);
     let expected = answered(posting.kind, amounts);
     assert_eq!(
-        (posted.number, posted.values),
-        (0, expected),
+        posted.reply, expected,
         "{posting:?} on {book:?} and expected"
     );
     posted.book

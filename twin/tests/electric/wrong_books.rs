@@ -3,7 +3,7 @@
 use crate::postings::{adjust, bill, cost, month_end, sales, settle};
 use twin::amounts::Run;
 use twin::calendar::{AUGUST, DECEMBER, FEBRUARY, JANUARY, JUNE};
-use twin::electric::{is_settling, post, share, ElectricBook, Open, Period, Posted, Values};
+use twin::electric::{is_settling, post, share, ElectricBook, Open, Period, Posted, Reply};
 use twin::records::{Posting, BILL, COST, MONTH_END, SETTLE};
 use twin::rounding::{round, weight};
 use twin::tally::electric::Tally;
@@ -26,7 +26,7 @@ fn claim_on(list: &[Posting], change: Change) -> (Result<(), String>, usize) {
     let (mut settlements, mut accepted) = (0, 0);
     for &posting in list {
         let mut posted = post(book, posting);
-        if posted.number == 0 {
+        if posted.reply.number == 0 {
             let step = Step {
                 before: book,
                 posting,
@@ -38,7 +38,7 @@ fn claim_on(list: &[Posting], change: Change) -> (Result<(), String>, usize) {
         if let Err(failure) = tally.check(&posted.book) {
             return (Err(failure), accepted);
         }
-        let taken = posted.number == 0;
+        let taken = posted.reply.number == 0;
         accepted += usize::from(taken);
         settlements += usize::from(taken && posting.kind == SETTLE);
         book = posted.book;
@@ -113,7 +113,7 @@ fn the_one_period_book_is_caught() {
             let (secondary, primary) = (step.before.secondary, step.before.primary);
             posted.book.secondary.pending = pending(secondary.carried, secondary.interest);
             posted.book.primary.pending = pending(primary.carried, primary.interest);
-            posted.values = Values::default();
+            posted.reply = Reply::default();
         }
     };
     let mut period = vec![cost(2_000_000), sales(600_000, 400_000)];
@@ -228,8 +228,10 @@ fn parts_rounded_apart_are_caught() {
 /// The wrong book hands back the book as it was with the refusal.
 fn refuse(step: &Step, posted: &mut Posted, number: u8) {
     posted.book = step.before;
-    posted.number = number;
-    posted.values = Values::default();
+    posted.reply = Reply {
+        number,
+        ..Reply::default()
+    };
 }
 
 #[test]
@@ -253,13 +255,13 @@ fn a_constant_bill_is_caught_if_its_runs_fall() {
     let still: Change = |step, posted| {
         if step.posting.kind == BILL {
             posted.book = step.before;
-            posted.values.line = 0;
+            posted.reply.line = 0;
         }
     };
     passes("a constant bill with still runs", &months(12), still);
     let falling: Change = |step, posted| {
         if step.posting.kind == BILL {
-            posted.values.line = 0;
+            posted.reply.line = 0;
         }
     };
     is_caught("a constant bill with runs that fall", &months(12), falling);

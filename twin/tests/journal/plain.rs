@@ -37,13 +37,14 @@ impl Ledger {
             Ledger::Electric(book) => {
                 let posted = proved::electric_post(*book, posting);
                 *book = posted.book;
-                let electric::Values {
+                let electric::Reply {
+                    number,
+                    filed,
                     line,
                     interest,
-                    filed,
-                } = posted.values;
+                } = posted.reply;
                 Reply {
-                    number: posted.number,
+                    number,
                     line,
                     interest: [interest.secondary, interest.primary],
                     filed: [filed.secondary, filed.primary],
@@ -53,10 +54,10 @@ impl Ledger {
                 let posted = proved::steam_post(*book, posting);
                 *book = posted.book;
                 Reply {
-                    number: posted.number,
-                    line: posted.values.line,
+                    number: posted.reply.number,
+                    line: posted.reply.line,
                     interest: [0; 2],
-                    filed: [posted.values.filed, 0],
+                    filed: [posted.reply.filed, 0],
                 }
             }
         }
@@ -176,7 +177,7 @@ fn steam_opened(input: &[u8], bad: u8, flaw: Flaw) -> Result<(Ledger, usize), u8
         _ => {}
     }
     let posted = proved::steam_open(quarters);
-    match posted.number {
+    match posted.reply.number {
         0 => Ok((Ledger::Steam(posted.book), 33)),
         _ => Err(bad),
     }

@@ -89,7 +89,7 @@ fn postings(lines: &mut Vec<String>) {
     }
 }
 
-/// The twin has the values in a struct of their own where C has them beside the number and the book.
+/// The twin has the reply in a struct of its own where C has its fields beside the book.
 fn answers(lines: &mut Vec<String>) {
     layout!(lines, "level_cents", Levels<i64>, secondary, primary);
     layout!(lines, "level_points", Levels<i32>, secondary, primary);
@@ -98,10 +98,10 @@ fn answers(lines: &mut Vec<String>) {
         "electric_reply",
         electric::Posted,
         [
-            number = number,
-            line = values.line,
-            interest = values.interest,
-            filed = values.filed,
+            number = reply.number,
+            filed = reply.filed,
+            line = reply.line,
+            interest = reply.interest,
             book = book
         ]
     );
@@ -110,9 +110,9 @@ fn answers(lines: &mut Vec<String>) {
         "steam_reply",
         steam::Posted,
         [
-            number = number,
-            line = values.line,
-            filed = values.filed,
+            number = reply.number,
+            filed = reply.filed,
+            line = reply.line,
             book = book
         ]
     );

@@ -17,12 +17,13 @@ fn posting(kind: u8, numbers: [i64; 3]) -> Posting {
 
 /// An answer of the electric book in the words of the paper's journal.
 fn electric_answer(kind: u8, posted: &electric::Posted) -> String {
-    let electric::Values {
+    let electric::Reply {
+        number,
+        filed,
         line,
         interest,
-        filed,
-    } = posted.values;
-    match (posted.number, kind) {
+    } = posted.reply;
+    match (number, kind) {
         (0, BILL) => format!("line {}", cents(line)),
         (0, SETTLE) => format!(
             "filed {} {}",
@@ -41,9 +42,9 @@ fn electric_answer(kind: u8, posted: &electric::Posted) -> String {
 
 /// An answer of the steam book likewise.
 fn steam_answer(kind: u8, posted: &steam::Posted) -> String {
-    match (posted.number, kind) {
-        (0, BILL) => format!("line {}", cents(posted.values.line)),
-        (0, SETTLE) => format!("filed {}", points(posted.values.filed)),
+    match (posted.reply.number, kind) {
+        (0, BILL) => format!("line {}", cents(posted.reply.line)),
+        (0, SETTLE) => format!("filed {}", points(posted.reply.filed)),
         (0, _) => "done".to_owned(),
         (number, _) => format!("refused {number}"),
     }
@@ -147,8 +148,8 @@ fn steam_runs(book: &SteamBook) -> String {
 }
 
 fn openings() -> String {
-    let electric = electric::open(2).number;
-    let steam = steam::open(-1, 0, 0, 0).number;
+    let electric = electric::open(2).reply.number;
+    let steam = steam::open(-1, 0, 0, 0).reply.number;
     format!("electric opening refused {electric}\nsteam opening refused {steam}\n")
 }
 

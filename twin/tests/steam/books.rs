@@ -162,7 +162,7 @@ fn postings_on_sound_books_agree() {
     for _ in 0..RANDOM_CASES {
         let book = sound_book(&mut random);
         let posting = posting(&mut random, &book);
-        met.count(posting, post(book, posting, &origin).number);
+        met.count(posting, post(book, posting, &origin).reply.number);
     }
     met.print("sound books");
     let without_six: Vec<u8> = NUMBERS.into_iter().filter(|&number| number != 6).collect();
@@ -178,7 +178,7 @@ fn postings_on_books_with_one_flaw_agree() {
         let mut book = sound_book(&mut random);
         spoil(&mut random, &mut book);
         let posting = posting(&mut random, &book);
-        met.count(posting, post(book, posting, &origin).number);
+        met.count(posting, post(book, posting, &origin).reply.number);
     }
     met.print("books with one flaw");
     met.has_numbers(1_000, &[2, 3, 6]);
@@ -191,7 +191,7 @@ fn postings_on_wild_books_agree() {
     for _ in 0..RANDOM_CASES {
         let book = wild_book(&mut random);
         let posting = posting(&mut random, &book);
-        met.count(posting, post(book, posting, &origin).number);
+        met.count(posting, post(book, posting, &origin).reply.number);
     }
     met.print("wild books");
     met.has_numbers(1_000, &[2, 3, 6]);

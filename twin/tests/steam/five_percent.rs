@@ -23,7 +23,7 @@ fn book(quarters: [i64; 4], sold: i64, cents: i64) -> SteamBook {
 fn counts(quarters: [i64; 4], sold: i64) -> bool {
     let book = book(quarters, sold, 0);
     let annual: i64 = sold + quarters[1..].iter().sum::<i64>();
-    let number = post(book, settle(-annual), "D of 0").number;
+    let number = post(book, settle(-annual), "D of 0").reply.number;
     assert!(number == 0 || number == 10, "{number} for {quarters:?}");
     number == 10
 }

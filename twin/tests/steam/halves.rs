@@ -104,7 +104,7 @@ fn bills_at_a_half_agree() {
         let before = with_factors(factors);
         let posted = post(before, bill(sold), &origin);
         let fell: i64 = parts(&before, &posted.book).iter().sum();
-        assert_eq!(fell, posted.values.line, "{factors:?}, {sold}, {origin}");
+        assert_eq!(fell, posted.reply.line, "{factors:?}, {sold}, {origin}");
         halves += usize::from(factors.iter().sum::<i32>() % 100 != 0);
     }
     assert!(halves > 50_000, "{halves} lines at a half");

@@ -32,7 +32,7 @@ struct AtLimits {
 
 impl AtLimits {
     fn count(&mut self, before: &Posted, posting: Posting, after: &Posted) {
-        match after.number {
+        match after.reply.number {
             0 => self.count_accepted(before, posting, after),
             12 => self.count_past(before, posting),
             _ => {}
@@ -117,19 +117,19 @@ fn quarters(random: &mut Random) -> [i64; 4] {
 fn run(seed: u64, postings: usize, limits: &mut AtLimits) -> Met {
     let (mut random, origin) = seeded(seed);
     let mut last = open(quarters(&mut random));
-    assert_eq!(last.number, 0, "opening, {origin}");
+    assert_eq!(last.reply.number, 0, "opening, {origin}");
     let mut driver = Driver::new(random, seed % 3 == 1);
     let mut met = Met::default();
     let mut tally = Tally::default();
     for index in 0..postings {
-        let posting = driver.next(&last.book, last.number);
+        let posting = driver.next(&last.book, last.reply.number);
         let next = post(last.book, posting, &format!("posting {index}, {origin}"));
         tally.feed(posting, &next);
         if let Err(failure) = tally.check(&next.book) {
             panic!("{failure}\nafter {posting:?} on {last:?}, posting {index}, {origin}");
         }
         limits.count(&last, posting, &next);
-        met.count(posting, next.number);
+        met.count(posting, next.reply.number);
         last = next;
     }
     met
@@ -178,7 +178,7 @@ fn every_quarter_of_a_long_history_is_settled_once() {
     for index in 0..LONG {
         let posting = driver.next(&last.0, last.1);
         let posted = post(last.0, posting, &format!("posting {index}, {origin}"));
-        if posted.number == 0 {
+        if posted.reply.number == 0 {
             match posting.kind {
                 SETTLE => settled_since += 1,
                 MONTH_END if is_settling(last.0.month) => {
@@ -188,6 +188,6 @@ fn every_quarter_of_a_long_history_is_settled_once() {
                 _ => {}
             }
         }
-        last = (posted.book, posted.number);
+        last = (posted.book, posted.reply.number);
     }
 }

@@ -24,7 +24,7 @@ fn book(month: u8, values: &[(&str, i64)]) -> SteamBook {
 /// Holds a posting to be accepted and to leave the number stored under the name.
 fn lands(book: SteamBook, posting: Posting, name: &str, number: i64) {
     let posted = post(book, posting, LISTED);
-    assert_eq!(posted.number, 0, "{posting:?} on {book:?}");
+    assert_eq!(posted.reply.number, 0, "{posting:?} on {book:?}");
     let met = stored(name).get(posted.book);
     assert_eq!(met, number, "{name} after {posting:?} on {book:?}");
 }
@@ -170,7 +170,7 @@ fn filed_factors_reach_their_limit_and_no_further() {
         for sign in SIGNS {
             let near = with_share(sign * cents, sold);
             let posted = post(near, settle(0), LISTED);
-            assert_eq!(posted.number, if stores { 0 } else { 12 }, "{cents}");
+            assert_eq!(posted.reply.number, if stores { 0 } else { 12 }, "{cents}");
             if stores {
                 assert_eq!(posted.book.pending.due, sign * cents);
             }

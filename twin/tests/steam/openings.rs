@@ -4,7 +4,7 @@ use crate::met::seeded;
 use crate::sides::open;
 use twin::amounts::Run;
 use twin::calendar::JANUARY;
-use twin::steam::{Period, Reconciliation, SteamBook, Values};
+use twin::steam::{Period, Reconciliation, Reply, SteamBook};
 
 fn fresh(quarters: [i64; 4]) -> SteamBook {
     SteamBook {
@@ -33,8 +33,11 @@ fn check(quarters: [i64; 4]) -> bool {
     let in_range = |sold: &i64| (0..=100_000_000).contains(sold);
     let accepted = quarters.iter().all(in_range);
     let number = if accepted { 0 } else { 7 };
-    assert_eq!(posted.number, number, "opening {quarters:?}");
-    assert_eq!(posted.values, Values::default(), "opening {quarters:?}");
+    let reply = Reply {
+        number,
+        ..Reply::default()
+    };
+    assert_eq!(posted.reply, reply, "opening {quarters:?}");
     let expected = fresh(if accepted { quarters } else { [0; 4] });
     assert_eq!(posted.book, expected, "opening {quarters:?}");
     accepted

@@ -2,7 +2,7 @@
 
 use crate::met::LISTED;
 use twin::records::{Posting, BILL, SETTLE};
-use twin::steam::{Posted, SteamBook, Values};
+use twin::steam::{Posted, Reply, SteamBook};
 use twin::{proved, steam};
 
 /// The numbers that a posting can get on a steam book, 0 for none.
@@ -23,7 +23,7 @@ pub fn open(quarters: [i64; 4]) -> Posted {
 /// The fresh book of an opening that must be accepted.
 pub fn opened(quarters: [i64; 4]) -> SteamBook {
     let posted = open(quarters);
-    assert_eq!(posted.number, 0, "opening {quarters:?}");
+    assert_eq!(posted.reply.number, 0, "opening {quarters:?}");
     posted.book
 }
 
@@ -35,14 +35,14 @@ pub fn post(book: SteamBook, posting: Posting, origin: &str) -> Posted {
         proved, twin,
         "proved and twin {posting:?} on {book:?}, {origin}"
     );
-    if twin.number != 0 {
+    if twin.reply.number != 0 {
         assert_eq!(twin.book, book, "refused {posting:?}, {origin}");
     }
     twin
 }
 
 pub fn number_of(book: SteamBook, posting: Posting) -> u8 {
-    post(book, posting, LISTED).number
+    post(book, posting, LISTED).reply.number
 }
 
 /// A listed posting that must be refused with the number.
@@ -52,15 +52,15 @@ pub fn expect_refusal(number: u8, book: SteamBook, posting: Posting) {
 }
 
 /// The amount that a posting of the kind is answered with, and nothing else.
-fn answered(kind: u8, amount: i64) -> Values {
-    let mut values = Values::default();
+fn answered(kind: u8, amount: i64) -> Reply {
+    let mut reply = Reply::default();
     match (kind, amount) {
-        (BILL, line) => values.line = line,
-        (SETTLE, factor) => values.filed = factor as i32,
+        (BILL, line) => reply.line = line,
+        (SETTLE, factor) => reply.filed = factor as i32,
         (_, 0) => {}
         _ => panic!("kind {kind} is not answered with {amount}"),
     }
-    values
+    reply
 }
 
 /// A listed posting that must be accepted with the amount; gives the next book.
@@ -68,8 +68,7 @@ pub fn expect(amount: i64, book: SteamBook, posting: Posting) -> SteamBook {
     let posted = post(book, posting, LISTED);
     let expected = answered(posting.kind, amount);
     assert_eq!(
-        (posted.number, posted.values),
-        (0, expected),
+        posted.reply, expected,
         "{posting:?} on {book:?} and expected"
     );
     posted.book
@@ -79,7 +78,7 @@ pub fn expect(amount: i64, book: SteamBook, posting: Posting) -> SteamBook {
 pub fn expect_all(book: SteamBook, postings: &[Posting]) -> SteamBook {
     postings.iter().fold(book, |book, &posting| {
         let posted = post(book, posting, LISTED);
-        assert_eq!(posted.number, 0, "{posting:?} on {book:?}");
+        assert_eq!(posted.reply.number, 0, "{posting:?} on {book:?}");
         posted.book
     })
 }

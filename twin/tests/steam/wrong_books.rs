@@ -6,7 +6,7 @@ use twin::calendar::{month_after, APRIL, JANUARY};
 use twin::records::{Posting, BILL, COST, MONTH_END, RECONCILE, SETTLE};
 use twin::rounding::round;
 use twin::steam::{
-    annual_sales, entering, is_settling, post, Period, Posted, Reconciliation, SteamBook, Values,
+    annual_sales, entering, is_settling, post, Period, Posted, Reconciliation, Reply, SteamBook,
 };
 use twin::tally::steam::Tally;
 
@@ -21,7 +21,7 @@ struct Step {
 impl Step {
     /// Whether the right book accepted a posting of the kind.
     fn took(&self, posted: &Posted, kind: u8) -> bool {
-        posted.number == 0 && self.posting.kind == kind
+        posted.reply.number == 0 && self.posting.kind == kind
     }
 }
 
@@ -47,7 +47,7 @@ fn claim_on(list: &[Posting], change: Change) -> (Result<(), String>, usize) {
         if let Err(failure) = tally.check(&posted.book) {
             return (Err(failure), accepted);
         }
-        let taken = posted.number == 0;
+        let taken = posted.reply.number == 0;
         accepted += usize::from(taken);
         settlements += usize::from(taken && posting.kind == SETTLE);
         book = posted.book;
@@ -124,7 +124,7 @@ fn the_one_period_book_is_caught() {
     let change: Change = |step, posted| {
         if step.took(posted, SETTLE) && step.settlements > 0 {
             posted.book.pending = Run::default();
-            posted.values = Values::default();
+            posted.reply = Reply::default();
         }
     };
     passes(
@@ -225,7 +225,7 @@ fn two_reconciliations() -> Vec<Posting> {
 #[test]
 fn a_second_reconciliation_that_takes_the_place_of_the_first_is_caught() {
     let change: Change = |step, posted| {
-        if posted.number == 9 {
+        if posted.reply.number == 9 {
             let mut free = step.before;
             free.reconciliation = Reconciliation::default();
             *posted = post(free, step.posting);
@@ -244,11 +244,11 @@ fn a_second_reconciliation_that_takes_the_place_of_the_first_is_caught() {
 fn the_claim_lets_a_second_reconciliation_pass_that_keeps_the_cents() {
     // The cents of the first join the second, so conservation has nothing to say.
     let change: Change = |step, posted| {
-        if posted.number == 9 {
+        if posted.reply.number == 9 {
             let run = &mut posted.book.reconciliation.run;
             run.due += step.before.carried;
             posted.book.carried = 0;
-            posted.number = 0;
+            posted.reply.number = 0;
         }
     };
     let list = two_reconciliations();
@@ -265,7 +265,7 @@ fn the_claim_lets_wrong_factors_pass() {
             let divisor = annual + i128::from(adjustment);
             let factor = round(100 * i128::from(posted.book.pending.due), divisor);
             posted.book.pending.factor = factor as i32;
-            posted.values.filed = factor as i32;
+            posted.reply.filed = factor as i32;
         }
     };
     passes("b within 5%", &months(30), with_adjustment);
@@ -306,8 +306,10 @@ fn the_claim_lets_a_settlement_pass_that_takes_the_account_along() {
 /// The wrong book hands back the book as it was with the refusal.
 fn refuse(step: &Step, posted: &mut Posted, number: u8) {
     posted.book = step.before;
-    posted.number = number;
-    posted.values = Values::default();
+    posted.reply = Reply {
+        number,
+        ..Reply::default()
+    };
 }
 
 #[test]
@@ -328,13 +330,13 @@ fn a_constant_bill_is_caught_if_its_runs_fall() {
     let still: Change = |step, posted| {
         if step.took(posted, BILL) {
             posted.book = step.before;
-            posted.values.line = 0;
+            posted.reply.line = 0;
         }
     };
     passes("a constant bill with still runs", &months(12), still);
     let falling: Change = |step, posted| {
         if step.took(posted, BILL) {
-            posted.values.line = 0;
+            posted.reply.line = 0;
         }
     };
     is_caught("a constant bill with runs that fall", &months(12), falling);

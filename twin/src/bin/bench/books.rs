@@ -1,8 +1,8 @@
 //! How postings to a book are measured, a kind at a time and in turn.
 
-use crate::measure::{add, row, CASES, SEED};
+use crate::measure::{row, CASES, SEED};
 use std::hint::black_box;
-use twin::posted::Posted;
+use twin::posted::{Posted, Replied};
 use twin::random::Random;
 use twin::records::Posting;
 
@@ -15,17 +15,17 @@ pub trait Measured: Copy + std::fmt::Debug {
     /// The name of the row of a whole journal.
     const JOURNAL: &str;
 
-    type Values;
+    type Reply: Replied;
 
     fn fresh(random: &mut Random) -> Self;
     /// The first bytes of a journal that opens with the book, which is fresh.
     fn opening(&self) -> Vec<u8>;
-    fn post_proved(self, posting: Posting) -> Posted<Self::Values, Self>;
-    fn post_twin(self, posting: Posting) -> Posted<Self::Values, Self>;
+    fn post_proved(self, posting: Posting) -> Posted<Self::Reply, Self>;
+    fn post_twin(self, posting: Posting) -> Posted<Self::Reply, Self>;
     /// The postings of a month as a utility has them, all of which the book accepts.
     fn month(&self, random: &mut Random) -> Vec<Posting>;
     /// The checksum with all that is answered.
-    fn add_answer(sum: u64, values: &Self::Values) -> u64;
+    fn add_reply(sum: u64, reply: &Self::Reply) -> u64;
     /// The checksum with one value that each kind changes.
     fn add_values(&self, sum: u64) -> u64;
 }
@@ -56,12 +56,12 @@ pub fn rows<Book: Measured>() {
 /// Posts to each book by itself, and gives a checksum of answers and books.
 fn post_each<Book: Measured>(
     cases: &[Case<Book>],
-    post: impl Fn(Book, Posting) -> Posted<Book::Values, Book>,
+    post: impl Fn(Book, Posting) -> Posted<Book::Reply, Book>,
 ) -> u64 {
     let cases = black_box(cases).iter();
     let sum = cases.fold(0, |sum, &(book, posting)| {
         let posted = post(book, posting);
-        posted.book.add_values(add_reply(sum, &posted))
+        posted.book.add_values(Book::add_reply(sum, &posted.reply))
     });
     black_box(sum)
 }
@@ -70,19 +70,15 @@ fn post_each<Book: Measured>(
 fn post_in_turn<Book: Measured>(
     fresh: Book,
     postings: &[Posting],
-    post: impl Fn(Book, Posting) -> Posted<Book::Values, Book>,
+    post: impl Fn(Book, Posting) -> Posted<Book::Reply, Book>,
 ) -> u64 {
     let (mut book, mut sum) = (fresh, 0);
     for &posting in black_box(postings) {
         let posted = post(book, posting);
-        sum = add_reply(sum, &posted);
+        sum = Book::add_reply(sum, &posted.reply);
         book = posted.book;
     }
     black_box(book.add_values(sum))
-}
-
-fn add_reply<Book: Measured>(sum: u64, posted: &Posted<Book::Values, Book>) -> u64 {
-    Book::add_answer(add(sum, posted.number.into()), &posted.values)
 }
 
 /// Accepted postings of the kind, from as many histories as have them.
@@ -104,7 +100,7 @@ pub fn history<Book: Measured>(random: &mut Random, postings: usize) -> Vec<Case
         for posting in book.month(random) {
             history.push((book, posting));
             let posted = book.post_twin(posting);
-            assert_eq!(posted.number, 0, "{posting:?} on {book:?}");
+            assert_eq!(posted.reply.number(), 0, "{posting:?} on {book:?}");
             book = posted.book;
         }
     }

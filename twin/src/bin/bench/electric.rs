@@ -2,7 +2,7 @@
 
 use crate::books::Measured;
 use crate::measure::add;
-use twin::electric::{is_settling, open, post, ElectricBook, Posted, Values, L_AND_P, MPS};
+use twin::electric::{is_settling, open, post, ElectricBook, Posted, Reply, L_AND_P, MPS};
 use twin::proved;
 use twin::random::Random;
 use twin::records::{Posting, ADJUST, BILL, COST, MONTH_END, SALES, SETTLE};
@@ -19,7 +19,7 @@ impl Measured for ElectricBook {
     const HISTORY: &str = "electric_history";
     const JOURNAL: &str = "electric_journal";
 
-    type Values = Values;
+    type Reply = Reply;
 
     fn fresh(random: &mut Random) -> Self {
         open(random.one_of(&[L_AND_P, MPS])).book
@@ -44,14 +44,15 @@ impl Measured for ElectricBook {
     }
 
     #[inline]
-    fn add_answer(sum: u64, values: &Values) -> u64 {
+    fn add_reply(sum: u64, reply: &Reply) -> u64 {
         let amounts = [
-            values.line,
-            values.interest.secondary,
-            values.interest.primary,
-            values.filed.secondary.into(),
-            values.filed.primary.into(),
+            reply.filed.secondary.into(),
+            reply.filed.primary.into(),
+            reply.line,
+            reply.interest.secondary,
+            reply.interest.primary,
         ];
+        let sum = add(sum, reply.number.into());
         amounts
             .iter()
             .fold(sum, |sum, &amount| add(sum, amount as u64))

@@ -6,7 +6,7 @@ use twin::journal::STEAM;
 use twin::proved;
 use twin::random::Random;
 use twin::records::{Posting, ADJUST, BILL, COST, MONTH_END, RECONCILE, SALES, SETTLE};
-use twin::steam::{is_settling, open, post, Posted, SteamBook, Values};
+use twin::steam::{is_settling, open, post, Posted, Reply, SteamBook};
 
 impl Measured for SteamBook {
     const KINDS: &[(u8, &str)] = &[
@@ -21,7 +21,7 @@ impl Measured for SteamBook {
     const HISTORY: &str = "steam_history";
     const JOURNAL: &str = "steam_journal";
 
-    type Values = Values;
+    type Reply = Reply;
 
     fn fresh(random: &mut Random) -> Self {
         let [first, second, third, fourth] = [0; 4].map(|_: i64| quarter(random));
@@ -49,8 +49,9 @@ impl Measured for SteamBook {
     }
 
     #[inline]
-    fn add_answer(sum: u64, values: &Values) -> u64 {
-        add(add(sum, values.line as u64), values.filed as u64)
+    fn add_reply(sum: u64, reply: &Reply) -> u64 {
+        let sum = add(sum, reply.number.into());
+        add(add(sum, reply.filed as u64), reply.line as u64)
     }
 
     #[inline]
