@@ -45,6 +45,7 @@ fn in_level(one: Level, other: Level) -> u64
         + in_run(one.second, other.second)
 }
 
+// In how many of their 23 fields two books differ.
 pub fn differing(one: ElectricBook, other: ElectricBook) -> u64
     ensures { λ r. ⌜ (r ≡ differing (electricFields one) (electricFields other)) × (r ≤ 23) ⌝ }
 {

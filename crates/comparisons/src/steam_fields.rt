@@ -70,6 +70,7 @@ fn in_reconciliation(one: Reconciliation, other: Reconciliation) -> u64
     in_run(one.run, other.run) + in_number(one.months, other.months)
 }
 
+// In how many of their 23 fields two books differ.
 pub fn differing(one: SteamBook, other: SteamBook) -> u64
     ensures { λ r. ⌜ (r ≡ differing (steamFields one) (steamFields other)) × (r ≤ 23) ⌝ }
 {
