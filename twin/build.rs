@@ -6,27 +6,26 @@ use std::path::{Path, PathBuf};
 use std::process::{Command, Output};
 use std::time::SystemTime;
 
-const LIBRARY: &str = "bash host/library";
+const LIBRARY: &str = "rt staticlib host";
 const PROGRAM: &str = "rt check neapscroll";
 
 fn main() {
     let top = repository_top();
     let library_folder = top.join("target").join("staticlib");
-    let archive = library_folder.join("libneapscroll.a");
+    let archive = library_folder.join("libhost.a");
 
     run(LIBRARY, &top);
     date_before_any_run(&archive);
     run(PROGRAM, &top);
 
-    for input in ["crates", "crates.txt", "host/library", "host/modules.txt"] {
-        println!("cargo::rerun-if-changed={}", top.join(input).display());
+    for input in [top.join("crates"), top.join("crates.txt"), archive] {
+        println!("cargo::rerun-if-changed={}", input.display());
     }
-    println!("cargo::rerun-if-changed={}", archive.display());
     println!(
         "cargo::rustc-link-search=native={}",
         library_folder.display()
     );
-    println!("cargo::rustc-link-lib=static=neapscroll");
+    println!("cargo::rustc-link-lib=static=host");
 }
 
 /// The folder that holds the twin's folder.

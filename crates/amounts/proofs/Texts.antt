@@ -1,15 +1,15 @@
 -- Laws of the text of an amount, as the code stores it: digit by digit from the lowest, and part by part. Assumes nothing.
-use mathlib.Core.Path.{◌≡◌, refl, sym, ap, ◌∙◌, subst}
+use mathlib.Core.Path.{◌≡◌, refl, sym, ap, ◌∙◌}
 use mathlib.Core.Bool.{Bool, true, false, cond}
 use mathlib.Core.List.{List, [], ◌∷◌, ◌++◌, map-append}
 use Prim.Native.Nat.{ℕ, zero, suc, ◌+◌, ◌-◌, ◌*◌, ◌/◌, ◌%◌, ◌^◌, ◌<◌, ◌≤◌}
 use native.Mathlib.Omega.{arith}
-use native.Mathlib.Nat.{mul_assoc, pow-suc, pow-le-pow_right, one-le-pow, div-lt_iff_lt-mul, div-add-mod', mod-lt}
-use lib.Dec.{ltb, lit<}
+use native.Mathlib.Nat.{div-lt_iff_lt-mul}
+use lib.Dec.{ltb}
 use lib.IntN.{ℤ, pos, nat_abs}
 use lib.Signed.{lt_z, ◌≤ℤ◌, ◌<ℤ◌}
 use lib.ListN.{length, set, length-map, length-append}
-use lib.Seq.{sets, set-set}
+use lib.Seq.{sets}
 use borrow.Author.Tests.{lt-ltb, le-ltb}
 use Rattle.ints.specs.Digits.{digits, length_digits}
 use Rattle.ints.specs.Order.{signed}
@@ -23,82 +23,30 @@ pub length_characters : (count n : ℕ) → length (characters (digits 10 count 
 length_characters count n = length-map (digits 10 count n) (λ (d : ℕ). 48 + d) ∙ length_digits 10 count n
 
 -- the digits that are left, once the lowest is stored
-digit_stored : (l : List ℕ) (at left n : ℕ) → sets (set l (at + left) (48 + n % 10)) at (characters (digits 10 left (n / 10))) ≡ sets l at (characters (digits 10 (suc left) n))
+pub digit_stored : (l : List ℕ) (at left n : ℕ) → 0 < left → sets (set l (at + (left - 1)) (48 + n % 10)) at (characters (digits 10 (left - 1) (n / 10))) ≡ sets l at (characters (digits 10 left n))
 unfolding digits
-digit_stored l at left n =
+digit_stored l at zero n h = absurd (omega arith)
+digit_stored l at (suc left) n h =
     let ds = digits 10 left (n / 10) in
-    ap (λ (k : ℕ). sets (set l (at + k) (48 + n % 10)) at (characters ds)) (sym (length_characters left (n / 10)))
+    let one : suc left - 1 ≡ left = omega arith in
+    let long : length (characters ds) ≡ left = length_characters left (n / 10) in
+    (λ i. sets (set l (at + one i) (48 + n % 10)) at (characters (digits 10 (one i) (n / 10))))
+    ∙ ap (λ (k : ℕ). sets (set l (at + k) (48 + n % 10)) at (characters ds)) (sym long)
     ∙ sym (sets_last l at (characters ds) (48 + n % 10))
     ∙ ap (sets l at) (sym (map-append (λ (d : ℕ). 48 + d) ds (n % 10 ∷ [])))
 
--- and once the two lowest are
-pub pair_stored : (l : List ℕ) (at left n : ℕ) → sets (set (set l (at + left + 1) (48 + n % 100 % 10)) (at + left) (48 + n % 100 / 10)) at (characters (digits 10 left (n / 100))) ≡ sets l at (characters (digits 10 (suc (suc left)) n))
-pair_stored l at left n =
-    let place : at + left + 1 ≡ at + suc left = omega arith in
-    let low : n % 100 % 10 ≡ n % 10 = omega arith in
-    let rest : n / 100 ≡ n / 10 / 10 = omega arith in
-    let high : n % 100 / 10 ≡ n / 10 % 10 = omega (arith, rest) in
-    (λ i. sets (set (set l (place i) (48 + low i)) (at + left) (48 + high i)) at (characters (digits 10 left (rest i))))
-    ∙ digit_stored (set l (at + suc left) (48 + n % 10)) at left (n / 10)
-    ∙ digit_stored l at (suc left) n
-
-pub rest_small : (left n : ℕ) → n < 10 ^ suc (suc left) → n / 100 < 10 ^ left
-rest_small left n h =
-    let small : n < 10 ^ left * 100 = omega (arith, pow-suc 10 (suc left), pow-suc 10 left) in
-    (div-lt_iff_lt-mul (lit< tt)).1 small
-
--- one digit alone
-pub one_small : (count n : ℕ) → count ≡ 1 → n < 10 ^ count → n < 10
-one_small count n e h = subst (λ (k : ℕ). n < 10 ^ k) e h
-
-pub one_stored : (l : List ℕ) (at count n : ℕ) → count ≡ 1 → n < 10 → set l at (48 + n) ≡ sets l at (characters (digits 10 count n))
+pub digits_stored : (l : List ℕ) (at left n : ℕ) → left ≤ 0 → l ≡ sets l at (characters (digits 10 left n))
 unfolding digits
-one_stored l at count n e h =
-    let d : n ≡ n % 10 = omega arith in
-    ap (λ (m : ℕ). set l at (48 + m)) d ∙ ap (λ (k : ℕ). sets l at (characters (digits 10 k n))) (sym e)
-
--- the last one or two
-pub last_stored : (l : List ℕ) (at left n : ℕ) → 1 ≤ left → left ≤ 2 → n < 100 → set (set l at (48 + n / 10)) (at + left - 1) (48 + n % 10) ≡ sets l at (characters (digits 10 left n))
-unfolding digits
-last_stored l at zero n h k s = absurd (omega arith)
-last_stored l at (suc zero) n h k s =
-    let e : at + 1 - 1 ≡ at = omega arith in
-    ap (λ (i : ℕ). set (set l at (48 + n / 10)) i (48 + n % 10)) e ∙ set-set l at (48 + n / 10) (48 + n % 10)
-last_stored l at (suc (suc zero)) n h k s =
-    let e : at + 2 - 1 ≡ suc at = omega arith in
-    let d : n / 10 ≡ n / 10 % 10 = omega arith in
-    λ i. set (set l at (48 + d i)) (e i) (48 + n % 10)
-last_stored l at (suc (suc (suc left))) n h k s = absurd (omega arith)
-
-pub last_small : (left n : ℕ) → left ≤ 2 → n < 10 ^ left → n < 100
-last_small left n k h =
-    let most : 10 ^ left ≤ 10 ^ 2 = pow-le-pow_right (lit< tt) k in
-    omega arith
+digits_stored l at zero n h = refl
+digits_stored l at (suc left) n h = absurd (omega arith)
 
 -- ---- the whole text
 
-pub whole_small : (size places : ℕ) → 1 ≤ places → size ≤ 2 ^ 63 → size / 10 ^ places < 10 ^ 18
-whole_small size places h k =
-    let ten : 10 ^ 1 ≤ 10 ^ places = pow-le-pow_right (lit< tt) h in
-    let some : 0 < 10 ^ places = omega arith in
-    let enough : size < 10 ^ 18 * 10 ^ places = omega arith in
+pub whole_small : (size unit : ℕ) → 10 ≤ unit → size ≤ 2 ^ 63 → size / unit < 10 ^ 18
+whole_small size unit h k =
+    let some : 0 < unit = omega arith in
+    let enough : size < 10 ^ 18 * unit = omega arith in
     (div-lt_iff_lt-mul some).1 enough
-
-pub fraction_small : (size places : ℕ) → size % 10 ^ places < 10 ^ places
-fraction_small size places = mod-lt size (one-le-pow places 10 (lit< tt))
-
--- a fraction has the amount's last digits
-digits_low : (places high low : ℕ) → digits 10 places (high * 10 ^ places + low) ≡ digits 10 places low
-unfolding digits
-digits_low zero high low = refl
-digits_low (suc places) high low =
-    let e : high * 10 ^ suc places + low ≡ high * 10 ^ places * 10 + low = ap (λ (k : ℕ). high * k + low) (pow-suc 10 places) ∙ omega (arith, mul_assoc high (10 ^ places) 10) in
-    let d : (high * 10 ^ suc places + low) / 10 ≡ high * 10 ^ places + low / 10 = omega (arith, e) in
-    let r : (high * 10 ^ suc places + low) % 10 ≡ low % 10 = omega (arith, e) in
-    (λ i. digits 10 places (d i) ++ (r i ∷ [])) ∙ ap (λ (l : List ℕ). l ++ (low % 10 ∷ [])) (digits_low places high (low / 10))
-
-fraction_digits : (places n : ℕ) → digits 10 places (n % 10 ^ places) ≡ digits 10 places n
-fraction_digits places n = sym (digits_low places (n / 10 ^ places) (n % 10 ^ places)) ∙ ap (digits 10 places) (div-add-mod' n (10 ^ places))
 
 pub minus : (z : ℤ) → z <ℤ pos 0 → sign_of z ≡ 45 ∷ []
 unfolding sign_of
@@ -129,53 +77,35 @@ text_length places z =
     omega
     (arith, length-append (sign_of z) (number ++ rest), length-append number rest, length_characters (width_of whole) whole, length_characters places (nat_abs z))
 
--- the first of some characters takes the minus's place, where there is none
-sign_taken : (z : ℤ) (l xs : List ℕ) → 1 ≤ length xs → sets (set l 0 45) (length (sign_of z)) xs ≡ sets (sets l 0 (sign_of z)) (length (sign_of z)) xs
-unfolding sign_of
-sign_taken z l [] h = absurd (omega arith)
-sign_taken z l (x ∷ xs) h = go (lt_z z (pos 0))
-  where
-    go : (t : Bool) → let sign : List ℕ = cond t (45 ∷ []) [] in sets (set l 0 45) (length sign) (x ∷ xs) ≡ sets (sets l 0 sign) (length sign) (x ∷ xs)
-    go true = refl
-    go false = ap (λ (m : List ℕ). sets m 1 xs) (set-set l 0 45 x)
-
--- what was measured of an amount: its whole part and its fraction, the lengths of its sign and of its whole part
-pub record Measured (places : ℕ) (z : ℤ) (whole fraction start count : ℕ) : Type 0 where
+-- what was measured of an amount: its size, its whole part, the lengths of its sign and of its whole part
+pub record Measured (places : ℕ) (z : ℤ) (size whole start count : ℕ) : Type 0 where
+  pub size_is : size ≡ nat_abs z
   pub whole_is : whole ≡ nat_abs z / 10 ^ places
-  pub fraction_is : fraction ≡ nat_abs z % 10 ^ places
   pub start_is : start ≡ length (sign_of z)
   pub count_is : count ≡ width_of whole
 
-module _ (places : ℕ) (z : ℤ) (whole fraction start count : ℕ) (m : Measured places z whole fraction start count) where
-  abbrev number : List ℕ
-  number = characters (digits 10 count whole)
-
-  long : length number ≡ count
-  long = length_characters count whole
-
+module _ (places : ℕ) (z : ℤ) (size whole start count : ℕ) (m : Measured places z size whole start count) where
   pub length_is : start + count + 1 + places ≡ length (text_of places z)
   length_is =
       let e : count ≡ width_of (nat_abs z / 10 ^ places) = m.count_is ∙ ap width_of m.whole_is in
       omega (arith, m.start_is, text_length places z)
 
   -- its parts, stored one behind the other, are its text
-  pub text_stored : (buffer whole-stored stored : List ℕ) → whole-stored ≡ sets (set buffer 0 45) start number → stored ≡ sets (set whole-stored (start + count) 46) (start + count + 1) (characters (digits 10 places fraction)) → stored ≡ sets buffer 0 (text_of places z)
+  pub text_stored : (buffer sign-stored whole-stored stored : List ℕ) → sign-stored ≡ sets buffer 0 (sign_of z) → whole-stored ≡ sets sign-stored start (characters (digits 10 count whole)) → stored ≡ sets (set whole-stored (start + count) 46) (start + count + 1) (characters (digits 10 places size)) → stored ≡ sets buffer 0 (text_of places z)
   unfolding text_of decimal
-  text_stored buffer whole-stored stored f g =
+  text_stored buffer sign-stored whole-stored stored e f g =
+      let number = characters (digits 10 (width_of (nat_abs z / 10 ^ places)) (nat_abs z / 10 ^ places)) in
       let rest : List ℕ = 46 ∷ characters (digits 10 places (nat_abs z)) in
-      let low : digits 10 places fraction ≡ digits 10 places (nat_abs z) = ap (digits 10 places) m.fraction_is ∙ fraction_digits places (nat_abs z) in
-      let n : number ≡ decimal (nat_abs z / 10 ^ places) = (λ i. characters (digits 10 ((m.count_is ∙ ap width_of m.whole_is) i) (m.whole_is i))) in
+      let n : characters (digits 10 count whole) ≡ number = (λ i. characters (digits 10 ((m.count_is ∙ ap width_of m.whole_is) i) (m.whole_is i))) in
       let a : start ≡ 0 + length (sign_of z) = omega (arith, m.start_is) in
-      let b : start + count ≡ start + length number = omega (arith, long) in
-      let d : start + count + 1 ≡ suc (start + length number) = omega (arith, long) in
+      let b : start + count ≡ start + length number = omega (arith, m.count_is, ap width_of m.whole_is, length_characters (width_of (nat_abs z / 10 ^ places)) (nat_abs z / 10 ^ places)) in
+      let d : start + count + 1 ≡ suc (start + length number) = omega arith in
       g
-      ∙ (λ i. sets (set (f i) (b i) 46) (d i) (characters (low i)))
-      ∙ sym (sets_append (set buffer 0 45) start number rest)
-      ∙ ap (λ (k : ℕ). sets (set buffer 0 45) k (number ++ rest)) m.start_is
-      ∙ sign_taken z buffer (number ++ rest) (omega (arith, length-append number rest))
-      ∙ ap (λ (k : ℕ). sets (sets buffer 0 (sign_of z)) k (number ++ rest)) (sym m.start_is ∙ a)
+      ∙ (λ i. sets (set (f i) (b i) 46) (d i) (characters (digits 10 places (m.size_is i))))
+      ∙ (λ i. sets (sets (e i) start (n i)) (start + length number) rest)
+      ∙ sym (sets_append (sets buffer 0 (sign_of z)) start number rest)
+      ∙ ap (λ (k : ℕ). sets (sets buffer 0 (sign_of z)) k (number ++ rest)) a
       ∙ sym (sets_append buffer 0 (sign_of z) (number ++ rest))
-      ∙ ap (λ (l : List ℕ). sets buffer 0 (sign_of z ++ (l ++ rest))) n
 
 -- ---- the buffer afterwards, and the answer
 

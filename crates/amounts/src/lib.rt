@@ -35,8 +35,7 @@ impl Cents {
     pub fn put(self, buffer: &mut [u8]) -> usize
         ensures { (result ≡ length (cents_text self)) × (result ≤ 24) × (buffer.new ≡ text_left (cents_text self) buffer.old) }
     {
-        let size = ints::size(self.0);
-        text::put(self.0, size / 100, size % 100, 2, buffer)
+        text::put(self.0, 2, 100, buffer)
     }
 
     // Writes the amount as text into the buffer: how many bytes, or refusal 13 with the buffer as it was.
@@ -69,8 +68,7 @@ impl Points {
     pub fn put(self, buffer: &mut [u8]) -> usize
         ensures { (result ≡ length (points_text self)) × (result ≤ 24) × (buffer.new ≡ text_left (points_text self) buffer.old) }
     {
-        let size = ints::size(self.0 as i64);
-        text::put(self.0 as i64, size / 10_000, size % 10_000, 4, buffer)
+        text::put(self.0 as i64, 4, 10_000, buffer)
     }
 
     // Writes the factor as text into the buffer: how many bytes, or refusal 13 with the buffer as it was.

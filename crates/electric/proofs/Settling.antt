@@ -1,22 +1,25 @@
 -- A settlement's filings make a book that is stored or refused as the rules' own is: they are the rules' filings where both runs are in
 -- limits, and where one is not, neither book is. Assumes nothing.
-use mathlib.Core.Path.{◌≡◌, ◌∙◌}
+use mathlib.Core.Path.{◌≡◌}
 use mathlib.Core.Bool.{false}
 use lib.IntN.{ℤ}
 use Rattle.ints.specs.Flags.{and_false}
 use Rattle.postings.specs.Kinds.{settle}
 use Rattle.postings.specs.declared.Posting.{Posting}
-use Rattle.riders.specs.Runs.{run, factor_for, run_in_limits}
-use Rattle.riders.specs.Posts.{filed_stored}
+use Rattle.postings.specs.declared.Answer.TheVariants.{FiledLevels}
+use Rattle.riders.specs.declared.Run.{Run}
+use Rattle.riders.specs.Runs.{run, factor_for, run_in_limits, filed_run}
+use Rattle.riders.specs.Posts.{StoredAs, stored_then, filed_stored}
 use Rattle.electric_rules.specs.declared.Level.{Level}
 use Rattle.electric_rules.specs.declared.ElectricBook.{ElectricBook}
-use Rattle.electric_rules.specs.Book.{refused}
+use Rattle.electric_rules.specs.declared.Posted.{Posted}
+use Rattle.electric_rules.specs.Book.{remainder, posted}
 use Rattle.electric_rules.specs.Rates.{rates_of}
-use Rattle.electric_rules.specs.Settlement.{secondary_share, primary_share}
-use Rattle.electric_rules.specs.Levels.{owed_by, settled_level}
+use Rattle.electric_rules.specs.Settlement.{remainder_after, secondary_share, primary_share}
+use Rattle.electric_rules.specs.Levels.{owed_by, filed_level, settled_level}
 use Rattle.electric_rules.specs.Limits.{level_in_limits, in_limits}
-use Rattle.electric_rules.specs.Next.{settle_posted, filed_answer, next_at, answer_at}
-use Rattle.electric.specs.Stored.{effect_at, fits, stored_or12, filed_secondary, filed_primary, settled_by}
+use Rattle.electric_rules.specs.Next.{settled_with, settle_posted, filed_answer, next_at, answer_at}
+use Rattle.electric.specs.Stored.{effect_at, fits}
 
 -- ---- a run out of limits makes a book out of limits
 
@@ -35,14 +38,21 @@ primary_out b e = simp (e, and_false)
 -- ---- the settled book, by the levels' filings
 
 module _ (b : ElectricBook) (p : Posting) where
+  -- what each level owes
   abbrev owed_secondary : ℤ
   owed_secondary = owed_by (secondary_share (rates_of b.division) b.period) b.secondary
 
   abbrev owed_primary : ℤ
   owed_primary = owed_by (primary_share (rates_of b.division) b.period) b.primary
 
-  pub stored_as : stored_or12 b (settled_by b (filed_secondary b p) (filed_primary b p)) ≡ stored_or12 b (effect_at settle b p)
+  abbrev settled_at : Run → Run → Posted
+  settled_at secondary primary =
+      posted (FiledLevels secondary.factor primary.factor)
+      (settled_with b (remainder (remainder_after (rates_of b.division) b.period)) (filed_level secondary b.secondary) (filed_level primary b.primary))
+
+  pub stored_as : StoredAs fits (settled_at (filed_run owed_secondary p.first) (filed_run owed_primary p.second)) (effect_at settle b p)
   unfolding next_at answer_at settle_posted filed_answer settled_level
   stored_as =
-      filed_stored fits (refused b 12) (λ r. settled_by b r (filed_primary b p)) (λ r e. secondary_out _ (level_out _ e)) owed_secondary p.first
-      ∙ filed_stored fits (refused b 12) (λ r. settled_by b (run (factor_for owed_secondary p.first) owed_secondary) r) (λ r e. primary_out _ (level_out _ e)) owed_primary p.second
+      stored_then fits
+      (filed_stored fits (λ r. settled_at r (filed_run owed_primary p.second)) (λ r e. secondary_out _ (level_out _ e)) owed_secondary p.first)
+      (filed_stored fits (λ r. settled_at (run (factor_for owed_secondary p.first) owed_secondary) r) (λ r e. primary_out _ (level_out _ e)) owed_primary p.second)

@@ -1,11 +1,11 @@
-// What a posting gives that no row before 12 has refused, one call a kind: the answer and the next book, or refusal 12.
-ghost use Rattle.std.specs.Prelude.{◌≡◌, true, false};
+// What a posting does that no row has refused so far, one call a kind: the answer and the next book, whose limits are still to be tested.
+ghost use Rattle.std.specs.Prelude.{◌≡◌, false};
 ghost use Rattle.postings.specs.Kinds.{cost, sales, bill, settle, month_end, adjust, kind_of, unknown_kind};
 ghost use Rattle.postings.specs.Ranged.{Ranged};
-ghost use Rattle.electric_rules.specs.Limits.{in_limits};
+ghost use Rattle.riders.specs.Posts.{StoredAs};
 ghost use Rattle.electric_rules.specs.Next.{cost_added, sales_added};
 ghost use Rattle.electric_rules.specs.Ranges.{PeriodWithin, BookWithin};
-ghost use Rattle.electric.specs.Stored.{effect_at, stored_or12, filed_secondary, filed_primary, settled_by};
+ghost use Rattle.electric.specs.Stored.{effect_at, fits};
 
 use amounts::Cents;
 use electric_rules::{ElectricBook, Kwh, Period, Posted, Sales};
@@ -22,10 +22,15 @@ fn cost_added(period: Period, posting: Posting) -> Period
 }
 
 fn post_cost(book: ElectricBook, posting: Posting) -> Posted
-    requires { (in_limits book ≡ true) × Ranged Book.Electric cost posting }
-    ensures { result ≡ stored_or12 book (effect_at cost book posting) }
+    requires { BookWithin book × Ranged Book.Electric cost posting }
+    ensures { result ≡ effect_at cost book posting }
 {
-    crate::storing::with_period(book, cost_added(book.period, posting))
+    let mut next = book;
+    next.period = cost_added(book.period, posting);
+    Posted {
+        answer: Answer::Done,
+        book: next,
+    }
 }
 
 fn sales_added(period: Period, posting: Posting) -> Period
@@ -42,39 +47,55 @@ fn sales_added(period: Period, posting: Posting) -> Period
 }
 
 fn post_sales(book: ElectricBook, posting: Posting) -> Posted
-    requires { (in_limits book ≡ true) × Ranged Book.Electric sales posting }
-    ensures { result ≡ stored_or12 book (effect_at sales book posting) }
+    requires { BookWithin book × Ranged Book.Electric sales posting }
+    ensures { result ≡ effect_at sales book posting }
 {
-    crate::storing::with_period(book, sales_added(book.period, posting))
+    let mut next = book;
+    next.period = sales_added(book.period, posting);
+    Posted {
+        answer: Answer::Done,
+        book: next,
+    }
 }
 
 fn post_bill(book: ElectricBook, posting: Posting) -> Posted
-    requires { (in_limits book ≡ true) × Ranged Book.Electric bill posting }
-    ensures { result ≡ stored_or12 book (effect_at bill book posting) }
+    requires { BookWithin book × Ranged Book.Electric bill posting }
+    ensures { result ≡ effect_at bill book posting }
 {
+    let mut next = book;
     if posting.first == 0 {
         let line = crate::levels::line(book.secondary, posting);
-        let level = crate::levels::billed(book.secondary, posting, line);
-        return crate::storing::with_secondary(book, Answer::Line(line), level);
+        next.secondary = crate::levels::billed(book.secondary, posting, line);
+        return Posted {
+            answer: Answer::Line(line),
+            book: next,
+        };
     }
     let line = crate::levels::line(book.primary, posting);
-    let level = crate::levels::billed(book.primary, posting, line);
-    crate::storing::with_primary(book, Answer::Line(line), level)
+    next.primary = crate::levels::billed(book.primary, posting, line);
+    Posted {
+        answer: Answer::Line(line),
+        book: next,
+    }
 }
 
 fn post_adjustment(book: ElectricBook, posting: Posting) -> Posted
-    requires { (in_limits book ≡ true) × Ranged Book.Electric adjust posting }
-    ensures { result ≡ stored_or12 book (effect_at adjust book posting) }
+    requires { BookWithin book × Ranged Book.Electric adjust posting }
+    ensures { result ≡ effect_at adjust book posting }
 {
+    let mut next = book;
     if posting.first == 0 {
-        let level = crate::levels::adjusted(book.secondary, posting);
-        return crate::storing::with_secondary(book, Answer::Done, level);
+        next.secondary = crate::levels::adjusted(book.secondary, posting);
+    } else {
+        next.primary = crate::levels::adjusted(book.primary, posting);
     }
-    let level = crate::levels::adjusted(book.primary, posting);
-    crate::storing::with_primary(book, Answer::Done, level)
+    Posted {
+        answer: Answer::Done,
+        book: next,
+    }
 }
 
-fn month_ended(book: ElectricBook, posting: Posting) -> Posted
+fn post_month_end(book: ElectricBook, posting: Posting) -> Posted
     requires { BookWithin book × Ranged Book.Electric month_end posting }
     ensures { result ≡ effect_at month_end book posting }
 {
@@ -92,22 +113,10 @@ fn month_ended(book: ElectricBook, posting: Posting) -> Posted
     }
 }
 
-// A month's end moves runs that lay within their limits: only what is carried and accrued can leave them.
-fn post_month_end(book: ElectricBook, posting: Posting) -> Posted
-    requires { (in_limits book ≡ true) × Ranged Book.Electric month_end posting }
-    ensures { result ≡ stored_or12 book (effect_at month_end book posting) }
-{
-    let effect = month_ended(book, posting);
-    let secondary = effect.book.secondary;
-    let primary = effect.book.primary;
-    let within = (secondary.carried.in_limits() & secondary.interest.in_limits())
-        & (primary.carried.in_limits() & primary.interest.in_limits());
-    crate::storing::stored(book, effect, within)
-}
-
-fn settled(book: ElectricBook, posting: Posting) -> Posted
+// A run that no book may store is filed as another such, so the book is stored or refused as the rules' own would be.
+fn post_settlement(book: ElectricBook, posting: Posting) -> Posted
     requires { BookWithin book × Ranged Book.Electric settle posting }
-    ensures { result ≡ settled_by book (filed_secondary book posting) (filed_primary book posting) }
+    ensures { StoredAs fits result (effect_at settle book posting) }
 {
     let rates = electric_settlement::rates_of(book.division);
     let shares = electric_settlement::shares_of(rates, book.period);
@@ -128,21 +137,9 @@ fn settled(book: ElectricBook, posting: Posting) -> Posted
     }
 }
 
-// A settled period leaves nothing open: the month has to be one that settles, and the runs that are filed decide. A run that no book may
-// store is filed as another such, so the book is stored or refused as the rules' own would be.
-fn post_settlement(book: ElectricBook, posting: Posting) -> Posted
-    requires { (in_limits book ≡ true) × Ranged Book.Electric settle posting }
-    ensures { result ≡ stored_or12 book (effect_at settle book posting) }
-{
-    let effect = settled(book, posting);
-    let within = electric_refusals::calendar::settles(book.month)
-        & (effect.book.secondary.pending.in_limits() & effect.book.primary.pending.in_limits());
-    crate::storing::stored(book, effect, within)
-}
-
 pub(crate) fn effect(book: ElectricBook, posting: Posting) -> Posted
-    requires { (in_limits book ≡ true) × Ranged Book.Electric (kind_of posting.kind) posting × (unknown_kind Book.Electric posting.kind ≡ false) }
-    ensures { result ≡ stored_or12 book (effect_at (kind_of posting.kind) book posting) }
+    requires { BookWithin book × Ranged Book.Electric (kind_of posting.kind) posting × (unknown_kind Book.Electric posting.kind ≡ false) }
+    ensures { StoredAs fits result (effect_at (kind_of posting.kind) book posting) }
 {
     let kind = posting.kind;
     match kind {

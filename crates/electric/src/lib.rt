@@ -9,9 +9,8 @@ use postings::{Answer, Posting};
 mod effects;
 mod filing;
 mod levels;
-mod storing;
 
-pub(crate) fn refuse(book: ElectricBook, number: u8) -> Posted
+fn refuse(book: ElectricBook, number: u8) -> Posted
     ensures { result ≡ refused book number }
 {
     Posted {
@@ -28,5 +27,9 @@ pub fn post(book: ElectricBook, posting: Posting) -> Posted
     if number != 0 {
         return refuse(book, number);
     }
-    effects::effect(book, posting)
+    let posted = effects::effect(book, posting);
+    if !electric_refusals::limits::in_limits(posted.book) {
+        return refuse(book, 12);
+    }
+    posted
 }

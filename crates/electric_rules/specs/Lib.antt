@@ -8,7 +8,6 @@ pub mod Levels
 pub mod Next
 pub mod Limits
 pub mod Ranges
-pub mod Changed
 pub mod Sizes
 pub mod Refusals
 pub mod Tally

@@ -6,7 +6,7 @@ ghost use Rattle.electric_rules.specs.Refusals.{post_of};
 ghost use Rattle.host.specs.Replies.{electric_reply, electric_reply_of};
 
 use amounts::{Cents, Points};
-use electric_rules::ElectricBook;
+use electric_rules::{ElectricBook, Posted};
 use postings::{Answer, Posting};
 
 // Cents of either level.
@@ -55,62 +55,48 @@ fn done(book: ElectricBook) -> ElectricReply
     }
 }
 
+fn reply_with(posted: Posted) -> ElectricReply
+    ensures { result ≡ electric_reply posted }
+{
+    let answer = posted.answer;
+    let book = posted.book;
+    let mut reply = done(book);
+    match answer {
+        Answer::Line(cents) => {
+            reply.line = cents;
+            reply
+        }
+        Answer::FiledLevels(secondary, primary) => {
+            let filed = LevelPoints { secondary, primary };
+            reply.filed = filed;
+            reply
+        }
+        Answer::Filed(_) => reply,
+        Answer::Interest(secondary, primary) => {
+            let interest = LevelCents { secondary, primary };
+            reply.interest = interest;
+            reply
+        }
+        Answer::Done => reply,
+        Answer::Refused(number) => {
+            reply.number = number;
+            reply
+        }
+    }
+}
+
 // The fresh electric book of a division, 0 L&P or 1 MPS. Any other is refusal 7, with L&P's book.
 #[unsafe(no_mangle)]
 pub extern "C" fn neapscroll_electric_open(division: u8) -> ElectricReply
     ensures { result ≡ electric_reply (opened_of division) }
 {
-    let opened = ElectricBook::open(division);
-    let answer = opened.answer;
-    ElectricReply {
-        number: crate::answers::number_of(answer),
-        filed: LevelPoints {
-            secondary: Points(0),
-            primary: Points(0),
-        },
-        line: Cents(0),
-        interest: LevelCents {
-            secondary: Cents(0),
-            primary: Cents(0),
-        },
-        book: crate::by_fields::electric(opened.book),
-    }
+    reply_with(ElectricBook::open(division))
 }
 
-// What a posting gives: the answer and the next book, or a refusal's number and the book as it was. Each answer has a return of its own,
-// since the compiler then keeps the kinds of postings apart up to the end.
+// What a posting gives: the answer and the next book, or a refusal's number and the book as it was.
 #[unsafe(no_mangle)]
 pub extern "C" fn neapscroll_electric_post(book: ElectricBook, posting: Posting) -> ElectricReply
     ensures { result ≡ electric_reply (post_of book posting) }
 {
-    let posted = electric::post(book, posting);
-    let answer = posted.answer;
-    let next = posted.book;
-    let mut reply = done(next);
-    match answer {
-        Answer::Line(cents) => {
-            reply.line = cents;
-            return reply;
-        }
-        Answer::FiledLevels(secondary, primary) => {
-            let filed = LevelPoints { secondary, primary };
-            reply.filed = filed;
-            return reply;
-        }
-        Answer::Filed(_) => {
-            return reply;
-        }
-        Answer::Interest(secondary, primary) => {
-            let interest = LevelCents { secondary, primary };
-            reply.interest = interest;
-            return reply;
-        }
-        Answer::Done => {
-            return reply;
-        }
-        Answer::Refused(number) => {
-            reply.number = number;
-            return reply;
-        }
-    }
+    reply_with(electric::post(book, posting))
 }

@@ -1,5 +1,5 @@
 // What a billing host links: the ledger's calls by the C calling convention. Each is total, and its contract is that of the
-// proved call below it. What calls a book's posting besides is exported by another module of the library (host/modules.txt).
+// proved call below it.
 ghost use Rattle.std.specs.Prelude.{◌≡◌};
 ghost use Rattle.rounding.specs.Round.{round};
 ghost use Rattle.rounding.specs.Weight.{weight_or0};
@@ -12,9 +12,8 @@ use postings::{Book, Posting};
 use records::Read;
 use refusals::Written;
 
-mod answers;
-mod by_fields;
 mod electric_book;
+mod journal_text;
 mod steam_book;
 
 // round(a/b); a divisor below 1 gives 0.

@@ -8,7 +8,7 @@ ghost use Rattle.host.specs.Replies.{steam_reply, steam_reply_of};
 
 use amounts::{Cents, Points};
 use postings::{Answer, Posting};
-use steam_rules::{Mmbtu, SteamBook};
+use steam_rules::{Mmbtu, Posted, SteamBook};
 
 // The refusal's number, or 0 and what the posting is answered with, 0 where a field does not apply; and the book after it. No bytes lie
 // unused right before the book, since it would then be copied twice.
@@ -33,6 +33,31 @@ fn done(book: SteamBook) -> SteamReply
     }
 }
 
+fn reply_with(posted: Posted) -> SteamReply
+    ensures { result ≡ steam_reply posted }
+{
+    let answer = posted.answer;
+    let book = posted.book;
+    let mut reply = done(book);
+    match answer {
+        Answer::Line(cents) => {
+            reply.line = cents;
+            reply
+        }
+        Answer::FiledLevels(_, _) => reply,
+        Answer::Filed(points) => {
+            reply.filed = points;
+            reply
+        }
+        Answer::Interest(_, _) => reply,
+        Answer::Done => reply,
+        Answer::Refused(number) => {
+            reply.number = number;
+            reply
+        }
+    }
+}
+
 // The fresh steam book after the sales of four quarters in million BTU, oldest first. One out of range is refusal 7, with the book after
 // four zeros.
 #[unsafe(no_mangle)]
@@ -44,47 +69,13 @@ pub extern "C" fn neapscroll_steam_open(
 ) -> SteamReply
     ensures { result ≡ steam_reply (opened_of (mmbtu first ∷ mmbtu second ∷ mmbtu third ∷ mmbtu fourth ∷ [])) }
 {
-    let opened = SteamBook::open([Mmbtu(first), Mmbtu(second), Mmbtu(third), Mmbtu(fourth)]);
-    let answer = opened.answer;
-    SteamReply {
-        number: crate::answers::number_of(answer),
-        filed: Points(0),
-        line: Cents(0),
-        book: crate::by_fields::steam(opened.book),
-    }
+    reply_with(SteamBook::open([Mmbtu(first), Mmbtu(second), Mmbtu(third), Mmbtu(fourth)]))
 }
 
-// What a posting gives: the answer and the next book, or a refusal's number and the book as it was. Each answer has a return of its own,
-// since the compiler then keeps the kinds of postings apart up to the end.
+// What a posting gives: the answer and the next book, or a refusal's number and the book as it was.
 #[unsafe(no_mangle)]
 pub extern "C" fn neapscroll_steam_post(book: SteamBook, posting: Posting) -> SteamReply
     ensures { result ≡ steam_reply (post_of book posting) }
 {
-    let posted = steam::post(book, posting);
-    let answer = posted.answer;
-    let next = posted.book;
-    let mut reply = done(next);
-    match answer {
-        Answer::Line(cents) => {
-            reply.line = cents;
-            return reply;
-        }
-        Answer::FiledLevels(_, _) => {
-            return reply;
-        }
-        Answer::Filed(points) => {
-            reply.filed = points;
-            return reply;
-        }
-        Answer::Interest(_, _) => {
-            return reply;
-        }
-        Answer::Done => {
-            return reply;
-        }
-        Answer::Refused(number) => {
-            reply.number = number;
-            return reply;
-        }
-    }
+    reply_with(steam::post(book, posting))
 }

@@ -50,8 +50,3 @@ all_below_lem (suc n) f h k l = go (eqb k n) refl (all_below_lem n f (T_right (f
 pub and_false : (t : Bool) → t && false ≡ false
 and_false true = refl
 and_false false = refl
-
--- what holds adds nothing to a conjunction
-pub and_true : (t : Bool) → t && true ≡ t
-and_true true = refl
-and_true false = refl

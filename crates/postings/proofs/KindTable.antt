@@ -89,23 +89,7 @@ module _ (book : Book) (kind : ℕ) where
       go true e = omega (arith, maps_past book kind (leb-true 8 kind e))
       go false e = maps_few book kind (leb-false 8 kind e)
 
-  -- without a bit no kind lacks any
-  pub none_lacked : (bits : List Bool) → bit_map_of bits ≡ 0 → stands_beyond (fields_of book kind) bits ≡ false
-  unfolding stands_beyond
-  none_lacked bits e =
-      beyond (length (fields_of book kind)) bits
-      ∙ lt-leb (2 ^ length (fields_of book kind)) (bit_map_of bits) (omega (arith, one-le-pow (length (fields_of book kind)) 2 (lit< tt)))
-
-  -- a bit that the kind lacks makes a map too large, and a kind that the book lacks has no bit of its own
-  pub some_lacked : (bits : List Bool) → 0 < bit_map_of bits → stands_beyond (fields_of book kind) bits ≡ leb (maps_of book kind) (bit_map_of bits)
-  unfolding stands_beyond maps_of
-  some_lacked bits h = beyond (length (fields_of book kind)) bits ∙ go (unknown_kind book kind) refl
-    where
-      go : (t : Bool) → unknown_kind book kind ≡ t → leb (2 ^ length (fields_of book kind)) (bit_map_of bits) ≡ leb (cond t 0 (2 ^ length (fields_of book kind))) (bit_map_of bits)
-      go true u = ap (λ (l : List Field). leb (2 ^ length l) (bit_map_of bits)) (no_fields u) ∙ le-leb 1 (bit_map_of bits) h ∙ sym (le-leb 0 (bit_map_of bits) (omega arith))
-      go false u = refl
-
-  -- and so of a kind that it has
+  -- a bit that the kind lacks makes a map too large
   module _ (bits : List Bool) (known : unknown_kind book kind ≡ false) where
     pub lacks : stands_beyond (fields_of book kind) bits ≡ leb (maps_of book kind) (bit_map_of bits)
     unfolding stands_beyond

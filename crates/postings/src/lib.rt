@@ -48,10 +48,11 @@ pub fn stray_number(book: Book, posting: Posting) -> bool
     ensures { result ≡ stray_number book posting }
 {
     let bits = kinds::bitmap_of(posting);
-    if bits == 0 {
-        return false;
+    let maps = kinds::maps_of(book, posting.kind);
+    if maps == 0 {
+        return 0 < bits;
     }
-    kinds::maps_of(book, posting.kind) <= bits
+    maps <= bits
 }
 
 // Refusal 7: a number that its field may not hold.

@@ -5,11 +5,10 @@ use mathlib.Core.List.{List, [], ◌∷◌}
 use Prim.Native.Nat.{ℕ, ◌+◌, ◌*◌, ◌/◌, ◌%◌, ◌<◌, ◌≤◌}
 use native.Mathlib.Omega.{arith}
 use lib.Dec.{eqb, ltb, lit<}
-use lib.IntN.{ℤ, pos}
+use lib.IntN.{ℤ}
 use lib.ListN.{length, get_or, drop}
 use lib.Seq.{drop-drop, get_or-drop}
 use borrow.Author.Tests.{lt-ltb, le-ltb}
-use Rattle.ints.specs.Machine.{eq_z}
 use Rattle.refusals.specs.Rows.{Row, row, refusal_by, by_table}
 use Rattle.refusals.specs.Laws.{at_row, past_row, accepted, gives_asked, gives_refusal}
 use Rattle.postings.proofs.BitMaps.{count, ones_of_bits, map_of_bits}
@@ -30,19 +29,15 @@ unfolding step_at
 next_is s at true = refl
 next_is s at false = omega arith
 
--- what a reader makes of the fields from a place on: of whether one of them is 0, and of their numbers
-abbrev made_of : (Bool → List ℤ → Read) → List ℕ → ℕ → List Bool → Read
-made_of reader s at bits = reader (zero_present bits (fields_at bits (drop at s))) (fields_at bits (drop at s))
+step_number : (s : List ℕ) (at : ℕ) (bit : Bool) (bits : List Bool) → fields_at (bit ∷ bits) (drop at s) ≡ (step_at s at bit).number ∷ fields_at bits (drop (step_at s at bit).next s)
+unfolding step_at fields_at
+step_number s at true bits = ap (λ (l : List ℕ). field_of (drop at s) ∷ fields_at bits l) (drop-drop 8 at s)
+step_number s at false bits = refl
 
--- and once the first of them is read
-abbrev read_first : (Bool → List ℤ → Read) → List ℕ → List Bool → Step → Read
-read_first reader s bits step = made_of (λ (t : Bool) (numbers : List ℤ). reader (step.empty || t) (step.number ∷ numbers)) s step.next bits
-
-step_read : (reader : Bool → List ℤ → Read) (s : List ℕ) (at : ℕ) (bit : Bool) (bits : List Bool) → made_of reader s at (bit ∷ bits) ≡ read_first reader s bits (step_at s at bit)
-unfolding step_at fields_at zero_present
-step_read reader s at true bits =
-    ap (λ (l : List ℕ). let numbers = fields_at bits l in reader (eq_z (field_of (drop at s)) (pos 0) || zero_present bits numbers) (field_of (drop at s) ∷ numbers)) (drop-drop 8 at s)
-step_read reader s at false bits = refl
+step_empty : (s : List ℕ) (at : ℕ) (bit : Bool) (bits : List Bool) (numbers : List ℤ) → zero_present (bit ∷ bits) ((step_at s at bit).number ∷ numbers) ≡ (step_at s at bit).empty || zero_present bits numbers
+unfolding step_at zero_present
+step_empty s at true bits numbers = refl
+step_empty s at false bits numbers = refl
 
 -- ---- three fields
 
@@ -66,63 +61,58 @@ pub length_three : (m : ℕ) → m < 8 → record_length m ≡ 2 + 8 * count (bi
 unfolding record_length
 length_three m h = ap (λ (k : ℕ). 2 + 8 * k) (ones_of_bits 3 m h ∙ ap count (bits_three m))
 
--- step by step: each has room, a field of 0 refuses the record, and three others are found
-module _ (s : List ℕ) (place kind m : ℕ) (small : m < 8) (room : place + record_length m ≤ length s) where
-  abbrev answer : Bool → List ℤ → Read
-  answer t numbers = cond t (refused_at place 5) (found_at (place + record_length m) (posting_of kind numbers))
+regroup : (a b c : Bool) → a || (b || (c || false)) ≡ a || b || c
+regroup true b c = refl
+regroup false true c = refl
+regroup false false true = refl
+regroup false false false = refl
 
-  long : record_length m ≡ 2 + 8 * count (bit₁ m ∷ bit₂ m ∷ bit₃ m ∷ [])
-  long = length_three m small
+module _ (s : List ℕ) (place kind m : ℕ) where
+  abbrev pub step₁ : Step
+  step₁ = step_at s (place + 2) (bit₁ m)
 
-  pub room₁ : (step_at s (place + 2) (bit₁ m)).next ≤ length s
-  room₁ = omega (arith, long, next_is s (place + 2) (bit₁ m))
+  abbrev pub step₂ : Step
+  step₂ = step_at s step₁.next (bit₂ m)
 
-  module _ (first : Step) (e₁ : first ≡ step_at s (place + 2) (bit₁ m)) where
-    next₁ : first.next ≡ place + 2 + 8 * cond (bit₁ m) 1 0
-    next₁ = ap (λ (f : Step). f.next) e₁ ∙ next_is s (place + 2) (bit₁ m)
+  abbrev pub step₃ : Step
+  step₃ = step_at s step₂.next (bit₃ m)
 
-    read₁ : read_first answer s (bit₂ m ∷ bit₃ m ∷ []) first ≡ fields_read s place kind m
-    unfolding fields_read
-    read₁ = ap (read_first answer s (bit₂ m ∷ bit₃ m ∷ [])) e₁ ∙ sym (step_read answer s (place + 2) (bit₁ m) (bit₂ m ∷ bit₃ m ∷ [])) ∙ sym (ap (made_of answer s (place + 2)) (bits_three m))
+  abbrev pub empty : Bool
+  empty = step₁.empty || step₂.empty || step₃.empty
 
-    pub empty₁ : first.empty ≡ true → refused_at place 5 ≡ fields_read s place kind m
-    empty₁ e = simp e at read₁
+  abbrev numbers : List ℤ
+  numbers = step₁.number ∷ step₂.number ∷ step₃.number ∷ []
 
-    pub room₂ : (step_at s first.next (bit₂ m)).next ≤ length s
-    room₂ = omega (arith, long, next₁, next_is s first.next (bit₂ m))
+  numbers_are : fields_at (bits_from 3 m) (drop (place + 2) s) ≡ numbers
+  unfolding fields_at
+  numbers_are =
+      ap (λ (bits : List Bool). fields_at bits (drop (place + 2) s)) (bits_three m)
+      ∙ step_number s (place + 2) (bit₁ m) (bit₂ m ∷ bit₃ m ∷ [])
+      ∙ ap (λ (l : List ℤ). step₁.number ∷ l) (step_number s step₁.next (bit₂ m) (bit₃ m ∷ []))
+      ∙ ap (λ (l : List ℤ). step₁.number ∷ step₂.number ∷ l) (step_number s step₂.next (bit₃ m) [])
 
-    module _ (some₁ : first.empty ≡ false) (second : Step) (e₂ : second ≡ step_at s first.next (bit₂ m)) where
-      next₂ : second.next ≡ first.next + 8 * cond (bit₂ m) 1 0
-      next₂ = ap (λ (f : Step). f.next) e₂ ∙ next_is s first.next (bit₂ m)
+  empty_is : zero_present (bits_from 3 m) (fields_at (bits_from 3 m) (drop (place + 2) s)) ≡ empty
+  unfolding zero_present
+  empty_is =
+      (λ i. zero_present (bits_three m i) (numbers_are i))
+      ∙ step_empty s (place + 2) (bit₁ m) (bit₂ m ∷ bit₃ m ∷ []) (step₂.number ∷ step₃.number ∷ [])
+      ∙ ap (λ (t : Bool). step₁.empty || t) (step_empty s step₁.next (bit₂ m) (bit₃ m ∷ []) (step₃.number ∷ []))
+      ∙ ap (λ (t : Bool). step₁.empty || (step₂.empty || t)) (step_empty s step₂.next (bit₃ m) [] [])
+      ∙ regroup step₁.empty step₂.empty step₃.empty
 
-      abbrev answer₂ : Bool → List ℤ → Read
-      answer₂ t numbers = answer t (first.number ∷ numbers)
+  pub next_three : step₃.next ≡ place + 2 + 8 * count (bit₁ m ∷ bit₂ m ∷ bit₃ m ∷ [])
+  next_three = omega (arith, next_is s (place + 2) (bit₁ m), next_is s step₁.next (bit₂ m), next_is s step₂.next (bit₃ m))
 
-      read₂ : read_first answer₂ s (bit₃ m ∷ []) second ≡ fields_read s place kind m
-      read₂ = ap (read_first answer₂ s (bit₃ m ∷ [])) e₂ ∙ sym (step_read answer₂ s first.next (bit₂ m) (bit₃ m ∷ [])) ∙ (simp some₁ at read₁)
+  pub some_empty : empty ≡ true → refused_at place 5 ≡ fields_read s place kind m
+  unfolding fields_read
+  some_empty e = sym (ap (λ (t : Bool). cond t (refused_at place 5) (found_at (place + record_length m) (posting_of kind (fields_at (bits_from 3 m) (drop (place + 2) s))))) (empty_is ∙ e))
 
-      pub empty₂ : second.empty ≡ true → refused_at place 5 ≡ fields_read s place kind m
-      empty₂ e = simp e at read₂
-
-      pub room₃ : (step_at s second.next (bit₃ m)).next ≤ length s
-      room₃ = omega (arith, long, next₁, next₂, next_is s second.next (bit₃ m))
-
-      module _ (some₂ : second.empty ≡ false) (third : Step) (e₃ : third ≡ step_at s second.next (bit₃ m)) where
-        next₃ : third.next ≡ place + record_length m
-        next₃ = omega (arith, long, next₁, next₂, ap (λ (f : Step). f.next) e₃, next_is s second.next (bit₃ m))
-
-        abbrev answer₃ : Bool → List ℤ → Read
-        answer₃ t numbers = answer₂ t (second.number ∷ numbers)
-
-        read₃ : read_first answer₃ s [] third ≡ fields_read s place kind m
-        read₃ = ap (read_first answer₃ s []) e₃ ∙ sym (step_read answer₃ s second.next (bit₃ m) []) ∙ (simp some₂ at read₂)
-
-        pub empty₃ : third.empty ≡ true → refused_at place 5 ≡ fields_read s place kind m
-        empty₃ e = simp e at read₃
-
-        pub none_empty : third.empty ≡ false → found_at third.next (posting_of kind (first.number ∷ second.number ∷ third.number ∷ [])) ≡ fields_read s place kind m
-        unfolding fields_at zero_present
-        none_empty e = ap (λ (next : ℕ). found_at next (posting_of kind (first.number ∷ second.number ∷ third.number ∷ []))) next₃ ∙ (simp e at read₃)
+  pub none_empty : m < 8 → empty ≡ false → found_at step₃.next (posting_of kind numbers) ≡ fields_read s place kind m
+  unfolding fields_read
+  none_empty h e =
+      let n : step₃.next ≡ place + record_length m = omega (arith, next_three, length_three m h) in
+      (λ i. found_at (n i) (posting_of kind (sym numbers_are i)))
+      ∙ sym (ap (λ (t : Bool). cond t (refused_at place 5) (found_at (place + record_length m) (posting_of kind (fields_at (bits_from 3 m) (drop (place + 2) s))))) (empty_is ∙ e))
 
 -- ---- row by row
 

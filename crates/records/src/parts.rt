@@ -84,15 +84,9 @@ pub(crate) fn read_fields(bytes: &[u8], place: usize, kind: u8, bitmap: u8) -> R
     ensures { result ≡ fields_read bytes.now place kind bitmap }
 {
     let first = step_at(bytes, place + 2, bitmap % 2 == 1);
-    if first.empty {
-        return refused(5, place);
-    }
     let second = step_at(bytes, first.next, bitmap / 2 % 2 == 1);
-    if second.empty {
-        return refused(5, place);
-    }
     let third = step_at(bytes, second.next, bitmap / 4 % 2 == 1);
-    if third.empty {
+    if first.empty | second.empty | third.empty {
         return refused(5, place);
     }
     let posting = Posting {

@@ -3,8 +3,8 @@
 use Rattle.std.specs.Prelude.{◌≡◌, Bool, cond, ◌&&◌, ◌||◌, ℕ, ◌+◌, ◌≤◌, leb, ltb}
 use Rattle.std.proofs.Math.Path.{refl, sym}
 use Rattle.std.proofs.Math.Bool.{true, false, not}
-use Rattle.std.proofs.Common.{true≢false, arith}
-use borrow.Author.Tests.{not-false, leb-true, ltb-true, le-leb}
+use Rattle.std.proofs.Common.{true≢false}
+use borrow.Author.Tests.{not-false, leb-true}
 use Rattle.ints.specs.Flags.{both}
 use Rattle.postings.specs.Kinds.{Kind, cost, sales, bill, settle, month_end, adjust, reconcile, unknown}
 
@@ -26,26 +26,6 @@ forbidden month_end settles settled = settles && not settled
 forbidden adjust settles settled = false
 forbidden reconcile settles settled = false
 forbidden unknown settles settled = false
-
--- ---- the month that a posting leaves
-
--- the next month is within its limits, unsettled
-pub next_month : (month : ℕ) (settles : Bool) → month_in_limits (month_after month) settles false ≡ true
-unfolding month_in_limits month_after
-next_month month settles = go (ltb month 12) refl
-  where
-    go : (t : Bool) → ltb month 12 ≡ t → leb 1 (cond t (month + 1) 1) && (leb (cond t (month + 1) 1) 12 && true) ≡ true
-    go true e =
-        let l = ltb-true month 12 e in
-        simp (le-leb 1 (month + 1) (omega arith), le-leb (month + 1) 12 (omega arith))
-    go false e = refl
-
--- a month is within its limits as settled where it settles
-pub settled_month : (month : ℕ) (settles settled : Bool) → month_in_limits month settles settled ≡ true → month_in_limits month settles true ≡ settles
-unfolding month_in_limits
-settled_month month settles settled e =
-    let from = both (leb 1 month) _ e in
-    simp (from.0, (both (leb month 12) _ from.1).0)
 
 -- ---- what an accepted posting finds
 

@@ -1,12 +1,13 @@
--- What a posting gives, as the code works it out: the rows before 12, then the effect, stored or refused by row 12. For any book whose
+-- What a posting gives, as the code works it out: the rows before 12, then the effect, then the limits of the next book. For any book whose
 -- table ends in row 12. Assumes nothing.
-use Rattle.std.specs.Prelude.{◌≡◌, Bool, true, false, not, List, [], ◌∷◌, ◌++◌, ℕ, ◌<◌, T, ℤ}
-use Rattle.std.proofs.Math.Path.{refl, sym, ap}
-use Rattle.std.proofs.Common.{◌∙◌, arith}
-use Rattle.std.proofs.Math.Bool.{cond}
+use Rattle.std.specs.Prelude.{◌≡◌, refl, Bool, true, false, ℕ, ◌<◌, T, ℤ}
+use Rattle.std.proofs.Math.Path.{sym}
+use Rattle.std.proofs.Common.{ap, ◌∙◌, true≢false, arith}
+use Rattle.std.proofs.Math.Bool.{not}
+use mathlib.Core.List.{List, [], ◌∷◌, ◌++◌}
 use Rattle.std.proofs.lemmas.Bool.{not-false}
 use Rattle.refusals.specs.Rows.{Row, row, refusal_by, before}
-use Rattle.refusals.specs.Laws.{numbered, none_holds, decided_earlier, decided_later, gives_asked, gives_refusal}
+use Rattle.refusals.specs.Laws.{numbered, none_holds, at_row, past_row, decided_earlier, decided_later, gives_asked, gives_refusal}
 use Rattle.postings.specs.Kinds.{kind_of, unknown_kind, stray_number, out_of_range}
 use Rattle.postings.specs.Ranged.{Ranged, none_out_of_range}
 use Rattle.postings.specs.declared.Book.{Book}
@@ -40,17 +41,16 @@ module _ {Held Posted : Type 0} (posted : Answer → Held → Posted) (rules : R
           let l : 0 < n = omega arith in
           refused_by n l (ap refusal_by table ∙ decided_earlier (before 12 (rules.rows b p)) _ positive n l (sym e))
 
-      -- where no row before it holds, row 12 stores the next book or refuses it
-      pub by_row_12 : n ≡ 0 → cond (in_limits (rules.next b p)) (posted (rules.answer b p) (rules.next b p)) (posted (Refused 12) b) ≡ given
-      unfolding refusal_by
-      by_row_12 z = go (in_limits (rules.next b p)) refl
-        where
-          last : (t : Bool) → in_limits (rules.next b p) ≡ t → refusal_by (rules.rows b p) ≡ cond (not t) 12 0
-          last t f = ap refusal_by table ∙ decided_later (before 12 (rules.rows b p)) _ positive (sym e ∙ z) ∙ ap (λ (u : Bool). cond (not u) 12 0) f
+      module _ (z : n ≡ 0) where
+        last : refusal_by (rules.rows b p) ≡ refusal_by (row 12 (not (in_limits (rules.next b p))) ∷ [])
+        last = ap refusal_by table ∙ decided_later (before 12 (rules.rows b p)) _ positive (sym e ∙ z)
 
-          go : (t : Bool) → in_limits (rules.next b p) ≡ t → cond t (posted (rules.answer b p) (rules.next b p)) (posted (Refused 12) b) ≡ given
-          go true f = accepted_by (last true f)
-          go false f = refused_by 12 (omega arith) (last false f)
+        pub refused_12 : in_limits (rules.next b p) ≡ false → posted (Refused 12) b ≡ given
+        refused_12 f = refused_by 12 (omega arith) (last ∙ at_row 12 [] (ap not f))
+
+        pub stored : in_limits (rules.next b p) ≡ true → posted (rules.answer b p) (rules.next b p) ≡ given
+        unfolding refusal_by
+        stored f = accepted_by (last ∙ past_row 12 [] (ap not f))
 
 -- ---- what the effect may rely on
 
@@ -64,23 +64,26 @@ module _ (book : Book) {Held : Type 0} (in_limits : Held → Bool) (b : Held) (p
       let none = none_holds begins positive (sym e ∙ z) in
       (not-false _ none.1.1.0, none_out_of_range book p none.1.1.1.0, none.0)
 
--- ---- what row 12 makes of an effect
+-- ---- what is asked of the effect
 
-module _ {Posted : Type 0} (fits : Posted → Bool) (refusal : Posted) where
-  -- the effect is stored where it fits, and else refused
-  abbrev pub stored_or : Posted → Posted
-  stored_or effect = cond (fits effect) effect refusal
+-- stored or refused alike: both are within the limits or neither is, and within them they are the same
+pub record StoredAs {Posted : Type 0} (fits : Posted → Bool) (effect rules : Posted) : Type 0 where
+  pub alike : fits effect ≡ fits rules
+  pub same : fits effect ≡ true → effect ≡ rules
 
-  pub is_stored : {effect : Posted} → fits effect ≡ true → effect ≡ stored_or effect
-  is_stored {effect} e = sym (ap (λ (t : Bool). cond t effect refusal) e)
+module _ {Posted : Type 0} (fits : Posted → Bool) where
+  pub stored_same : {a b : Posted} → a ≡ b → StoredAs fits a b
+  stored_same e = record { alike = ap fits e; same = (λ h. e) }
 
-  pub is_refused : {effect : Posted} → fits effect ≡ false → refusal ≡ stored_or effect
-  is_refused {effect} e = sym (ap (λ (t : Bool). cond t effect refusal) e)
+  pub stored_then : {a b c : Posted} → StoredAs fits a b → StoredAs fits b c → StoredAs fits a c
+  stored_then e f = record { alike = e.alike ∙ f.alike; same = (λ h. e.same h ∙ f.same (sym e.alike ∙ h)) }
 
   -- what the code files is stored or refused as the rules' own run is, where no run out of limits is stored
-  pub filed_stored : (given : Run → Posted) → ((r : Run) → run_in_limits r ≡ false → fits (given r) ≡ false) → (owed sales : ℤ) → stored_or (given (filed_run owed sales)) ≡ stored_or (given (run (factor_for owed sales) owed))
+  pub filed_stored : (given : Run → Posted) → ((r : Run) → run_in_limits r ≡ false → fits (given r) ≡ false) → (owed sales : ℤ) → StoredAs fits (given (filed_run owed sales)) (given (run (factor_for owed sales) owed))
   filed_stored given out owed sales = go (run_in_limits (run (factor_for owed sales) owed)) refl
     where
-      go : (t : Bool) → run_in_limits (run (factor_for owed sales) owed) ≡ t → stored_or (given (filed_run owed sales)) ≡ stored_or (given (run (factor_for owed sales) owed))
-      go true e = ap (λ (r : Run). stored_or (given r)) (filed_in_lem owed sales e)
-      go false e = sym (is_refused (out (filed_run owed sales) (filed_out owed sales e))) ∙ is_refused (out (run (factor_for owed sales) owed) e)
+      go : (t : Bool) → run_in_limits (run (factor_for owed sales) owed) ≡ t → StoredAs fits (given (filed_run owed sales)) (given (run (factor_for owed sales) owed))
+      go true e = stored_same (ap given (filed_in_lem owed sales e))
+      go false e =
+          let o = out (filed_run owed sales) (filed_out owed sales e) in
+          record { alike = o ∙ sym (out (run (factor_for owed sales) owed) e); same = (λ h. absurd (true≢false (sym h ∙ o))) }

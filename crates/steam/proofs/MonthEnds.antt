@@ -39,9 +39,9 @@ entered_as b place carried none =
       reconciliation = b.reconciliation;
     }
 
-pub run_enters : (place : ℕ) (b : SteamBook) {carried : ℤ} {none : Run} → carried ≡ b.carried.0 +ℤ due_at b place → none ≡ no_run → entered_as b place carried none ≡ entered (suc place) b
+pub run_enters : (run place : ℕ) (b : SteamBook) {carried : ℤ} {none : Run} → run ≡ suc place → carried ≡ b.carried.0 +ℤ due_at b place → none ≡ no_run → entered_as b place carried none ≡ entered run b
 unfolding entered
-run_enters place b e n = λ i. entered_as b place (e i) (n i)
+run_enters run place b r e n = (λ i. entered_as b place (e i) (n i)) ∙ ap (λ (k : ℕ). entered k b) (sym r)
 
 -- how large the account can be before the reconciliation's month
 pub entered_within : (run : ℕ) (b : SteamBook) → run ≤ 4 → BookWithin b → Within 2000000000000 (entered run b).carried.0 × RunWithin (entered run b).reconciliation.run

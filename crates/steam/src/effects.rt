@@ -1,13 +1,13 @@
-// What a posting gives that no row before 12 has refused, one call a kind: the answer and the next book, or refusal 12.
-ghost use Rattle.std.specs.Prelude.{◌≡◌, true, false, ◌+ℤ◌};
+// What a posting does that no row has refused so far, one call a kind: the answer and the next book, whose limits are still to be tested.
+ghost use Rattle.std.specs.Prelude.{◌≡◌, false, ◌+ℤ◌};
 ghost use Rattle.postings.specs.Kinds.{cost, sales, bill, settle, month_end, adjust, reconcile, kind_of, unknown_kind};
 ghost use Rattle.postings.specs.Ranged.{Ranged};
+ghost use Rattle.riders.specs.Posts.{StoredAs};
 ghost use Rattle.steam_rules.specs.Book.{period_of};
 ghost use Rattle.steam_rules.specs.Settlement.{shifted};
-ghost use Rattle.steam_rules.specs.Limits.{in_limits};
 ghost use Rattle.steam_rules.specs.Next.{settled_with};
 ghost use Rattle.steam_rules.specs.Ranges.{PeriodWithin, BookWithin};
-ghost use Rattle.steam.specs.Stored.{effect_at, stored_or12, filed_share, settled_by};
+ghost use Rattle.steam.specs.Stored.{effect_at, fits};
 
 use amounts::Cents;
 use postings::{Answer, Book, Posting};
@@ -25,10 +25,15 @@ fn cost_added(period: Period, posting: Posting) -> Period
 }
 
 fn post_cost(book: SteamBook, posting: Posting) -> Posted
-    requires { (in_limits book ≡ true) × Ranged Book.Steam cost posting }
-    ensures { result ≡ stored_or12 book (effect_at cost book posting) }
+    requires { BookWithin book × Ranged Book.Steam cost posting }
+    ensures { result ≡ effect_at cost book posting }
 {
-    crate::storing::with_period(book, cost_added(book.period, posting))
+    let mut next = book;
+    next.period = cost_added(book.period, posting);
+    Posted {
+        answer: Answer::Done,
+        book: next,
+    }
 }
 
 fn sales_added(period: Period, posting: Posting) -> Period
@@ -42,13 +47,18 @@ fn sales_added(period: Period, posting: Posting) -> Period
 }
 
 fn post_sales(book: SteamBook, posting: Posting) -> Posted
-    requires { (in_limits book ≡ true) × Ranged Book.Steam sales posting }
-    ensures { result ≡ stored_or12 book (effect_at sales book posting) }
+    requires { BookWithin book × Ranged Book.Steam sales posting }
+    ensures { result ≡ effect_at sales book posting }
 {
-    crate::storing::with_period(book, sales_added(book.period, posting))
+    let mut next = book;
+    next.period = sales_added(book.period, posting);
+    Posted {
+        answer: Answer::Done,
+        book: next,
+    }
 }
 
-fn billed(book: SteamBook, posting: Posting) -> Posted
+fn post_bill(book: SteamBook, posting: Posting) -> Posted
     requires { BookWithin book × Ranged Book.Steam bill posting }
     ensures { result ≡ effect_at bill book posting }
 {
@@ -62,17 +72,6 @@ fn billed(book: SteamBook, posting: Posting) -> Posted
         answer: Answer::Line(line),
         book: next,
     }
-}
-
-fn post_bill(book: SteamBook, posting: Posting) -> Posted
-    requires { (in_limits book ≡ true) × Ranged Book.Steam bill posting }
-    ensures { result ≡ stored_or12 book (effect_at bill book posting) }
-{
-    let effect = billed(book, posting);
-    let dues = effect.book.dues;
-    let within = steam_refusals::limits::dues_in_limits(dues)
-        & effect.book.reconciliation.in_limits();
-    crate::storing::stored(book, effect, within)
 }
 
 // The oldest quarter leaves, the newest enters.
@@ -95,9 +94,9 @@ fn settled_with(book: SteamBook, period: Period, quarters: [Mmbtu; 4], filed: Ru
 }
 
 // A run that no book stores is filed for one out of limits, so the book is stored or refused as the rules' own would be.
-fn settled(book: SteamBook, posting: Posting) -> Posted
+fn post_settlement(book: SteamBook, posting: Posting) -> Posted
     requires { BookWithin book × Ranged Book.Steam settle posting }
-    ensures { result ≡ settled_by book (filed_share book posting) }
+    ensures { StoredAs fits result (effect_at settle book posting) }
 {
     let past = book.quarters;
     let shared = steam_settlement::shared_of(book.period);
@@ -115,17 +114,7 @@ fn settled(book: SteamBook, posting: Posting) -> Posted
     }
 }
 
-// A settled quarter leaves nothing open; the month must be one that settles, and the filed run is tested.
-fn post_settlement(book: SteamBook, posting: Posting) -> Posted
-    requires { (in_limits book ≡ true) × Ranged Book.Steam settle posting }
-    ensures { result ≡ stored_or12 book (effect_at settle book posting) }
-{
-    let effect = settled(book, posting);
-    let within = steam_refusals::calendar::settles(book.month) & effect.book.pending.in_limits();
-    crate::storing::stored(book, effect, within)
-}
-
-fn month_ended(book: SteamBook, posting: Posting) -> Posted
+fn post_month_end(book: SteamBook, posting: Posting) -> Posted
     requires { BookWithin book }
     ensures { result ≡ effect_at month_end book posting }
 {
@@ -139,27 +128,23 @@ fn month_ended(book: SteamBook, posting: Posting) -> Posted
     }
 }
 
-// What a month's end moves lay within its limits; only the account can leave them.
-fn post_month_end(book: SteamBook, posting: Posting) -> Posted
-    requires { in_limits book ≡ true }
-    ensures { result ≡ stored_or12 book (effect_at month_end book posting) }
-{
-    let effect = month_ended(book, posting);
-    crate::storing::stored(book, effect, effect.book.carried.in_limits())
-}
-
 fn post_adjustment(book: SteamBook, posting: Posting) -> Posted
-    requires { (in_limits book ≡ true) × Ranged Book.Steam adjust posting }
-    ensures { result ≡ stored_or12 book (effect_at adjust book posting) }
+    requires { BookWithin book × Ranged Book.Steam adjust posting }
+    ensures { result ≡ effect_at adjust book posting }
 {
     let carried = Cents(book.carried.0 + posting.first);
-    crate::storing::with_account(book, carried, book.reconciliation)
+    let mut next = book;
+    next.carried = carried;
+    Posted {
+        answer: Answer::Done,
+        book: next,
+    }
 }
 
 // What is carried is filed as a settlement's share is.
 fn post_reconciliation(book: SteamBook, posting: Posting) -> Posted
-    requires { (in_limits book ≡ true) × Ranged Book.Steam reconcile posting }
-    ensures { result ≡ stored_or12 book (effect_at reconcile book posting) }
+    requires { BookWithin book × Ranged Book.Steam reconcile posting }
+    ensures { StoredAs fits result (effect_at reconcile book posting) }
 {
     let run = Run::filed(book.carried, posting.second);
     let reconciliation = Reconciliation {
@@ -167,13 +152,19 @@ fn post_reconciliation(book: SteamBook, posting: Posting) -> Posted
         months: posting.first as u8,
     };
     let none = Cents(0);
-    crate::storing::with_account(book, none, reconciliation)
+    let mut next = book;
+    next.carried = none;
+    next.reconciliation = reconciliation;
+    Posted {
+        answer: Answer::Done,
+        book: next,
+    }
 }
 
 // The effect of the posting, by its kind.
 pub(crate) fn effect(book: SteamBook, posting: Posting) -> Posted
-    requires { (in_limits book ≡ true) × Ranged Book.Steam (kind_of posting.kind) posting × (unknown_kind Book.Steam posting.kind ≡ false) }
-    ensures { result ≡ stored_or12 book (effect_at (kind_of posting.kind) book posting) }
+    requires { BookWithin book × Ranged Book.Steam (kind_of posting.kind) posting × (unknown_kind Book.Steam posting.kind ≡ false) }
+    ensures { StoredAs fits result (effect_at (kind_of posting.kind) book posting) }
 {
     let kind = posting.kind;
     match kind {

@@ -9,10 +9,9 @@ use steam_rules::{Posted, SteamBook};
 mod bills;
 mod effects;
 mod month_ends;
-mod storing;
 
 // A refusal, with the book as it was.
-pub(crate) fn refuse(book: SteamBook, number: u8) -> Posted
+fn refuse(book: SteamBook, number: u8) -> Posted
     ensures { result ≡ refused book number }
 {
     Posted {
@@ -29,5 +28,9 @@ pub fn post(book: SteamBook, posting: Posting) -> Posted
     if number != 0 {
         return refuse(book, number);
     }
-    effects::effect(book, posting)
+    let posted = effects::effect(book, posting);
+    if !steam_refusals::limits::in_limits(posted.book) {
+        return refuse(book, 12);
+    }
+    posted
 }

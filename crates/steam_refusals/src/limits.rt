@@ -1,9 +1,9 @@
-// The limits of a steam book, with those of runs 1 to 4; those of its other parts stand with their types.
+// The limits of a steam book, with those of its runs; those of its other parts stand with their types.
 ghost use Rattle.std.specs.Prelude.{◌≡◌};
-ghost use Rattle.steam_rules.specs.Limits.{factors_in_limits, dues_in_limits, runs_in_limits, in_limits};
+ghost use Rattle.steam_rules.specs.Limits.{factors_in_limits, dues_in_limits, reconciliation_in_limits, runs_in_limits, in_limits};
 
 use amounts::{Cents, Points};
-use steam_rules::SteamBook;
+use steam_rules::{Reconciliation, SteamBook};
 
 // Whether a book may store the factors of runs 1 to 4.
 fn factors_in_limits(factors: [Points; 4]) -> bool
@@ -14,10 +14,20 @@ fn factors_in_limits(factors: [Points; 4]) -> bool
 }
 
 // Whether a book may store what is due under runs 1 to 4.
-pub fn dues_in_limits(dues: [Cents; 4]) -> bool
+fn dues_in_limits(dues: [Cents; 4]) -> bool
     ensures { result ≡ dues_in_limits dues }
 {
     dues[0].in_limits() & (dues[1].in_limits() & (dues[2].in_limits() & dues[3].in_limits()))
+}
+
+// At most 24 months are left; where none is, there is neither factor nor cents.
+fn reconciliation_in_limits(reconciliation: Reconciliation) -> bool
+    ensures { result ≡ reconciliation_in_limits reconciliation }
+{
+    (reconciliation.months <= SteamBook::MOST_MONTHS)
+        & (reconciliation.run.in_limits()
+            & (!(reconciliation.months == 0)
+                | ((reconciliation.run.factor.0 == 0) & (reconciliation.run.due.0 == 0))))
 }
 
 // The four runs, what is pending and the reconciliation.
@@ -27,7 +37,8 @@ fn runs_in_limits(book: SteamBook) -> bool
     let factors = book.factors;
     let dues = book.dues;
     book.pending.in_limits()
-        & (factors_in_limits(factors) & (dues_in_limits(dues) & book.reconciliation.in_limits()))
+        & (factors_in_limits(factors)
+            & (dues_in_limits(dues) & reconciliation_in_limits(book.reconciliation)))
 }
 
 // Whether every value of the book lies within its limits.

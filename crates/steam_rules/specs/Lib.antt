@@ -9,8 +9,6 @@ pub mod Fours
 pub mod Ranges
 pub mod Quarters
 pub mod Sizes
-pub mod Changed
-pub mod MonthEnd
 pub mod Opening
 pub mod Refusals
 pub mod Tally

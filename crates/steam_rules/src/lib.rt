@@ -2,7 +2,7 @@
 // lost over any list of postings.
 ghost use Rattle.std.specs.Prelude.{◌≡◌};
 ghost use Rattle.steam_rules.specs.Book.{no_period, no_reconciliation, fresh_of};
-ghost use Rattle.steam_rules.specs.Limits.{mmbtu_in_limits, remainder_in_limits, period_in_limits, quarters_in_limits, reconciliation_in_limits};
+ghost use Rattle.steam_rules.specs.Limits.{mmbtu_in_limits, remainder_in_limits, period_in_limits, quarters_in_limits};
 ghost use Rattle.steam_rules.specs.Opening.{opened_of};
 
 use amounts::{Cents, Points};
@@ -101,15 +101,6 @@ impl Period {
 }
 
 impl Reconciliation {
-    // Whether a book may store it: at most 24 months are left; where none is, there is neither factor nor cents.
-    pub fn in_limits(self) -> bool
-        ensures { result ≡ reconciliation_in_limits self }
-    {
-        (self.months <= SteamBook::MOST_MONTHS)
-            & (self.run.in_limits()
-                & (!(self.months == 0) | ((self.run.factor.0 == 0) & (self.run.due.0 == 0))))
-    }
-
     // None runs.
     pub fn none() -> Reconciliation
         ensures { result ≡ no_reconciliation }

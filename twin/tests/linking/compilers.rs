@@ -1,11 +1,9 @@
 //! Compiles a program of the folder `host` against the static library, and runs it.
 
-use crate::commands::printed;
 use crate::files::repository_top;
-use crate::library::archive;
 use std::env;
 use std::path::{Path, PathBuf};
-use std::process::Command;
+use std::process::{Command, Output};
 
 /// How a language is compiled.
 pub struct Language {
@@ -39,11 +37,13 @@ const WARNINGS: [&str; 4] = ["-Wall", "-Wextra", "-pedantic", "-Werror"];
 /// What the program prints, compiled without a warning as a program of the language.
 pub fn output_of(language: &Language, source: &str) -> String {
     let program = compiled(language, source);
-    printed(Command::new(&program), &program.display().to_string())
+    let output = run(Command::new(&program), &program.display().to_string());
+    String::from_utf8(output.stdout).expect("the program prints text")
 }
 
 fn compiled(language: &Language, source: &str) -> PathBuf {
     let host = repository_top().join("host");
+    let library = repository_top().join("target/staticlib/libhost.a");
     let name = format!("{source}.{}", language.variable);
     let program = Path::new(env!("CARGO_TARGET_TMPDIR")).join(name);
     let mut command = Command::new(compiler(language));
@@ -52,12 +52,29 @@ fn compiled(language: &Language, source: &str) -> PathBuf {
     command
         .args(["-x", language.sources])
         .arg(host.join(source));
-    command.args(["-x", "none"]).arg(archive());
+    command.args(["-x", "none"]).arg(library);
     command.arg("-o").arg(&program);
-    printed(command, &format!("the {} compiler", language.name));
+    run(command, &format!("the {} compiler", language.name));
     program
 }
 
 fn compiler(language: &Language) -> String {
     env::var(language.variable).unwrap_or_else(|_| language.compiler.to_owned())
+}
+
+/// What the command wrote, which must end well: without a compiler nothing is shown, so that is a failure too.
+fn run(mut command: Command, what: &str) -> Output {
+    let output = match command.output() {
+        Ok(output) => output,
+        Err(error) => {
+            panic!("{what} could not be started, so nothing is tested: {error} ({command:?})")
+        }
+    };
+    assert!(
+        output.status.success(),
+        "{what} ended with {}\n{command:?}\n{}",
+        output.status,
+        String::from_utf8_lossy(&output.stderr)
+    );
+    output
 }

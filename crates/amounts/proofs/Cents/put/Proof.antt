@@ -12,7 +12,7 @@ use Rattle.amounts.proofs.Cents.put.Tie as tie
 
 returns : tie.Need-returns
 unfolding cents_text
-returns c = let s = c.before.before.before.before.before.before.before.before in
+returns c = let s = c.before.before.before.before.before.before in
     let f : SFits w64 s.args.self.0 = search rules in
     let e = to_z-of_z f in
     let p = c.before.before.put in (
@@ -22,4 +22,4 @@ returns c = let s = c.before.before.before.before.before.before.before.before in
     )
 
 pub put_spec : {M : Type 1} → statement M
-put_spec = tie.close (tie.spec (λ c κs. search rules) (λ c κs. search rules) (λ c. search rules) returns)
+put_spec = tie.close (tie.spec (λ c κs. search rules) (λ c. search rules) returns)

@@ -11,15 +11,12 @@ use Rattle.amounts.proofs.Points.put.Statement.{statement}
 use Rattle.amounts.specs.Text.{points_text, text_of, text_left}
 use Rattle.amounts.proofs.Points.put.Tie as tie
 
-cast-size : tie.Need-overflow-cast-size
-cast-size c = fits64 (search (bounds, wide32) depth 30) tt
-
 cast-put : tie.Need-overflow-cast-put
 cast-put c = fits64 (search (bounds, wide32) depth 30) tt
 
 returns : tie.Need-returns
 unfolding points_text
-returns c = let s = c.before.before.before.before.before.before.before.before.before.before in
+returns c = let s = c.before.before.before.before.before.before.before in
     let e : to_z w64 (of_z w64 (to_z w32 (of_z w32 s.args.self.0))) ≡ s.args.self.0 = exact (search (exacts, wide32) depth 30) tt in
     let p = c.before.before.put in (
       p.ensures.0 ∙ ap (λ (z : ℤ). length (text_of 4 z)) e,
@@ -28,4 +25,4 @@ returns c = let s = c.before.before.before.before.before.before.before.before.be
     )
 
 pub put_spec : {M : Type 1} → statement M
-put_spec = tie.close (tie.spec cast-size (λ c κs. search rules) cast-put (λ c κs. search rules) (λ c. search rules) returns)
+put_spec = tie.close (tie.spec cast-put (λ c κs. search rules) (λ c. search rules) returns)

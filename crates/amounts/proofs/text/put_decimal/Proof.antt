@@ -2,7 +2,7 @@
 use native.Mathlib.Omega.{arith}
 use borrow.Author.Rules.{rules}
 use Rattle.amounts.proofs.Texts.{decimal_length, decimal_stored, kept, stored}
-use Rattle.amounts.proofs.Widths.{width_most, width_enough}
+use Rattle.amounts.proofs.Widths.{width_most}
 use Rattle.amounts.proofs.text.put_decimal.Statement.{statement}
 use Rattle.amounts.proofs.text.put_decimal.Tie as tie
 
@@ -21,11 +21,6 @@ returns-2 c =
     let l = decimal_length _ _ w in
     (l, omega (arith, w, width_most 9 c.before.before.before.args.n (omega arith)), kept _ _ (omega (arith, l)))
 
-put-digits-requires : tie.Need-put-digits-requires
-put-digits-requires c κs =
-    let w = width_enough _ _ c.before.before.width.ensures.0 in
-    (search rules, w.0, w.1)
-
 pub put-decimal-spec : {M : Type 1} → statement M
 put-decimal-spec =
-    tie.close (tie.spec (λ c κs. search rules) put-digits-requires (λ c. search rules) returns returns-2)
+    tie.close (tie.spec (λ c κs. search rules) (λ c κs. search rules) (λ c. search rules) returns returns-2)

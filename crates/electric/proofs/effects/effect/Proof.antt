@@ -1,10 +1,12 @@
--- `effects::effect` stores the effect of the posting's kind or refuses it, each arm that of its own. Assumes nothing.
+-- `effects::effect` is the effect of the posting's kind, each arm that of its own. Assumes nothing.
 use mathlib.Core.Path.{◌≡◌}
 use Rattle.postings.specs.Kinds.{kind_of}
 use Rattle.postings.specs.Ranged.{ranged_as}
 use Rattle.postings.specs.declared.Book.TheVariants.{Electric}
-use Rattle.electric.proofs.ByKind.{of_kind, is_adjustment}
+use Rattle.riders.specs.Posts.{stored_same}
+use Rattle.electric.proofs.ByKind.{stored_as_kind, is_adjustment}
 use Rattle.electric.proofs.effects.effect.Statement.{statement}
+use Rattle.electric.specs.Stored.{fits}
 use Rattle.electric.proofs.effects.effect.Tie as tie
 
 six : (c : tie.At-match-rest) → c.before.args.posting.kind ≡ 6
@@ -36,27 +38,27 @@ post-adjustment-requires c κs = (c.before.requires.0, ranged_as Electric c.befo
 
 returns : tie.Need-returns
 unfolding kind_of
-returns c = let s = c.before.before.args in of_kind s.book s.posting c.before.match.keys1 c.post-cost.ensures
+returns c = let s = c.before.before.args in stored_as_kind s.book s.posting c.before.match.keys1 (stored_same fits c.post-cost.ensures)
 
 returns-2 : tie.Need-returns-2
 unfolding kind_of
-returns-2 c = let s = c.before.before.args in of_kind s.book s.posting c.before.match.keys2 c.post-sales.ensures
+returns-2 c = let s = c.before.before.args in stored_as_kind s.book s.posting c.before.match.keys2 (stored_same fits c.post-sales.ensures)
 
 returns-3 : tie.Need-returns-3
 unfolding kind_of
-returns-3 c = let s = c.before.before.args in of_kind s.book s.posting c.before.match.keys3 c.post-bill.ensures
+returns-3 c = let s = c.before.before.args in stored_as_kind s.book s.posting c.before.match.keys3 (stored_same fits c.post-bill.ensures)
 
 returns-4 : tie.Need-returns-4
 unfolding kind_of
-returns-4 c = let s = c.before.before.args in of_kind s.book s.posting c.before.match.keys4 c.post-settlement.ensures
+returns-4 c = let s = c.before.before.args in stored_as_kind s.book s.posting c.before.match.keys4 c.post-settlement.ensures
 
 returns-5 : tie.Need-returns-5
 unfolding kind_of
-returns-5 c = let s = c.before.before.args in of_kind s.book s.posting c.before.match.keys5 c.post-month-end.ensures
+returns-5 c = let s = c.before.before.args in stored_as_kind s.book s.posting c.before.match.keys5 (stored_same fits c.post-month-end.ensures)
 
 returns-6 : tie.Need-returns-6
 unfolding kind_of
-returns-6 c = let s = c.before.before.args in of_kind s.book s.posting (six c.before) c.post-adjustment.ensures
+returns-6 c = let s = c.before.before.args in stored_as_kind s.book s.posting (six c.before) (stored_same fits c.post-adjustment.ensures)
 
 pub effect-spec : {M : Type 1} → statement M
 effect-spec =

@@ -1,45 +1,31 @@
--- `effects::post_month_end` stores the effect of a month end, or refuses it, by what is carried and accrued. Assumes nothing.
-use mathlib.Core.Path.{sym, ap, ◌∙◌}
-use mathlib.Core.Bool.{Bool, ◌&&◌}
+-- `effects::post_month_end` is the effect of a month end: the month's interest, and both levels at its end. Assumes nothing.
+use mathlib.Core.Path.{ap, ◌∙◌}
+use Prim.Native.Nat.{ℕ}
 use borrow.Author.Rules.{rules}
-use Rattle.amounts.specs.Amounts.{cents_in_limits}
-use Rattle.electric_rules.specs.declared.Posted.{Posted}
-use Rattle.electric_rules.specs.Changed.{month_end_decides}
-use Rattle.electric_rules.specs.Next.{next_at}
-use Rattle.electric_rules.specs.Ranges.{book_within}
+use Rattle.postings.specs.declared.Answer.TheVariants.{Interest}
+use Rattle.electric_rules.specs.Book.{posted}
+use Rattle.electric_rules.specs.Levels.{accrued_level, handed_over}
+use Rattle.electric_rules.specs.Next.{ended_with, month_ended, next_at, interest_answer, answer_at}
 use Rattle.electric.proofs.effects.post_month_end.Statement.{statement}
-use Rattle.electric.specs.Stored.{fits, stored_or12}
 use Rattle.electric.proofs.effects.post_month_end.Tie as tie
 
-abbrev decided : Posted → Bool
-decided r =
-    (cents_in_limits r.book.secondary.carried && cents_in_limits r.book.secondary.interest)
-    && (cents_in_limits r.book.primary.carried && cents_in_limits r.book.primary.interest)
-
-month-ended-requires : tie.Need-month-ended-requires
-month-ended-requires c κs = (book_within c.args.book c.requires.0, c.requires.1)
-
-stored-requires : tie.Need-stored-requires
-unfolding next_at
-stored-requires c κs = let m = c.before.before.before.before.before.before in
-    let s = m.before in
-    ap fits m.month-ended.ensures
-    ∙ month_end_decides s.args.book s.requires.0 s.args.posting
-    ∙ sym (ap decided m.month-ended.ensures)
-    ∙ sym (λ i. (c.before.before.before.in-limits.ensures i && c.before.before.in-limits2.ensures i) && (c.before.in-limits3.ensures i && c.in-limits4.ensures i))
-
 returns : tie.Need-returns
-returns c = let m = c.before.before.before.before.before.before.before in
-    c.stored.ensures ∙ ap (stored_or12 m.before.args.book) m.month-ended.ensures
+unfolding next_at answer_at month_ended interest_answer
+returns c = let b = c.before.before.before.before.before.before.args.book in
+    let r = c.before.before.before.before.before.before.args.posting.first in
+    let run = c.before.before.before.entering.ensures in
+    let secondary = c.before.ended.ensures ∙ ap (λ (n : ℕ). handed_over n (accrued_level r b.secondary)) run in
+    let primary = c.ended2.ensures ∙ ap (λ (n : ℕ). handed_over n (accrued_level r b.primary)) run in
+    λ i. posted (Interest (c.before.before.before.before.before.interest.ensures i) (c.before.before.before.before.interest2.ensures i)) (ended_with b (c.before.before.month-after.ensures i) (secondary i) (primary i))
 
 pub post-month-end-spec : {M : Type 1} → statement M
 post-month-end-spec =
     tie.close
     (tie.spec
-    month-ended-requires
     (λ c κs. search rules)
     (λ c κs. search rules)
     (λ c κs. search rules)
     (λ c κs. search rules)
-    stored-requires
+    (λ c κs. search rules)
+    (λ c κs. search rules)
     returns)

@@ -1,37 +1,72 @@
--- `effects::post_settlement` stores the effect of a settlement, or refuses it, by the runs that are filed. Assumes nothing.
-use mathlib.Core.Path.{sym, ap, ◌∙◌}
-use mathlib.Core.Bool.{◌&&◌}
+-- `effects::post_settlement` is stored or refused as the effect of a settlement: each level files its share, by the rates of the division.
+-- Assumes nothing.
+use mathlib.Core.Path.{◌≡◌, ap, ◌∙◌}
+use mir.Syntax.{w64}
+use mir.Val.{SFits}
+use mir.Facts.{to_z-of_z}
 use borrow.Author.Rules.{rules}
-use Rattle.riders.specs.Runs.{run_in_limits}
-use Rattle.electric_rules.specs.declared.Posted.{Posted}
-use Rattle.electric_rules.specs.Calendar.{settles}
-use Rattle.electric_rules.specs.Changed.{settlement-decides}
-use Rattle.electric_rules.specs.Ranges.{book_within}
+use Rattle.ints.specs.Order.{signed}
+use Rattle.ints.specs.Range.{Within, between_same}
+use Rattle.ints.specs.Bound.{b_between, fits64}
+use Rattle.postings.specs.declared.Answer.TheVariants.{FiledLevels}
+use Rattle.electric_rules.specs.declared.Rates.{Rates}
+use Rattle.riders.specs.declared.Run.{Run}
+use Rattle.riders.specs.Runs.{filed_run}
+use Rattle.riders.specs.Posts.{stored_same, stored_then}
+use Rattle.electric_rules.specs.Book.{posted}
+use Rattle.electric_rules.specs.Levels.{owed_by, filed_level}
+use Rattle.electric_rules.specs.Next.{settled_with}
 use Rattle.electric_rules.specs.Rates.{rates_of}
+use Rattle.electric_rules.specs.Ranges.{period_yes}
+use Rattle.electric_rules.specs.Sizes.{rates_within, division_rates, secondary_within, primary_within}
+use Rattle.electric_settlement.specs.Shares.{shares_of, shares_or0, shares_or0_is}
 use Rattle.electric.proofs.Settling.{stored_as}
 use Rattle.electric.proofs.effects.post_settlement.Statement.{statement}
-use Rattle.electric.specs.Stored.{fits, stored_or12, filed_secondary, filed_primary}
+use Rattle.electric.specs.Stored.{fits}
 use Rattle.electric.proofs.effects.post_settlement.Tie as tie
 
-settled-requires : tie.Need-settled-requires
-settled-requires c κs = (book_within c.args.book c.requires.0, c.requires.1)
+-- the shares are the rules', by the rates of the division
+shared : (c : tie.After-shares-of) → let b = c.before.before.args.book in c.shares_of.result ≡ shares_of (rates_of b.division) b.period
+shared c =
+    let b = c.before.before.args.book in
+    c.shares_of.ensures
+    ∙ ap (λ (r : Rates). shares_or0 r b.period) c.before.rates-of.ensures
+    ∙ shares_or0_is (rates_of b.division) b.period (division_rates b.division) (period_yes b.period c.before.before.requires.0.period)
 
-stored-requires : tie.Need-stored-requires
-stored-requires c κs = let m = c.before.before.before in
-    let s = m.before in
-    let b = s.args.book in
-    let p = s.args.posting in
-    ap fits m.settled.ensures
-    ∙ settlement-decides b s.requires.0 (rates_of b.division) (filed_secondary b p) (filed_primary b p)
-    ∙ sym (ap (λ (r : Posted). settles b.month && (run_in_limits r.book.secondary.pending && run_in_limits r.book.primary.pending)) m.settled.ensures)
-    ∙ sym (λ i. c.before.before.settles.ensures i && (c.before.in-limits.ensures i && c.in-limits2.ensures i))
+filing-of-requires : tie.Need-filing-of-requires
+filing-of-requires c κs = let b = c.before.before.before.args.book in
+    let w = c.before.before.before.requires.0 in
+    let share : Within 10000000000000 c.before.shares_of.result.secondary.0 = between_same (λ i. (shared c.before i).secondary.0) (secondary_within _ b.period (rates_within _ (division_rates b.division)) w.period) in
+    (omega signed, w.secondary)
+
+filing-of-requires-2 : tie.Need-filing-of-requires-2
+filing-of-requires-2 c κs = let b = c.before.before.before.before.before.args.book in
+    let w = c.before.before.before.before.before.requires.0 in
+    (between_same (λ i. (shared c.before.before.before i).primary.0) (primary_within _ b.period (rates_within _ (division_rates b.division)) w.period), w.primary)
 
 returns : tie.Need-returns
-returns c = let m = c.before.before.before.before in
-    let s = m.before.args in
-    c.stored.ensures ∙ ap (stored_or12 s.book) m.settled.ensures ∙ stored_as s.book s.posting
+returns c = let b = c.before.before.before.before.before.before.before.before.before.before.before.args.book in
+    let p = c.before.before.before.before.before.before.before.before.before.before.before.args.posting in
+    let ranged = c.before.before.before.before.before.before.before.before.before.before.before.requires.1 in
+    let f : SFits w64 p.first = fits64 (b_between ranged.0) tt in
+    let g : SFits w64 p.second = fits64 (b_between ranged.1.0) tt in
+    let shares = shared c.before.before.before.before.before.before.before.before.before in
+    let on_secondary = c.before.before.before.before.before.before.before.filing-of.ensures ∙ (λ i. filed_run (owed_by (shares i).secondary.0 b.secondary) (to_z-of_z f i)) in
+    let on_primary = c.before.before.before.before.before.filing-of2.ensures ∙ (λ i. filed_run (owed_by (shares i).primary.0 b.primary) (to_z-of_z g i)) in
+    let secondary = c.before.before.before.before.filed-level.ensures ∙ ap (λ (r : Run). filed_level r b.secondary) on_secondary in
+    let primary = c.before.before.before.filed-level2.ensures ∙ ap (λ (r : Run). filed_level r b.primary) on_primary in
+    let next = c.before.before.settled-with.ensures ∙ (λ i. settled_with b (shares i).remainder (secondary i) (primary i)) in
+    stored_then fits (stored_same fits (λ i. posted (FiledLevels (on_secondary i).factor (on_primary i).factor) (next i))) (stored_as b p)
 
 pub post-settlement-spec : {M : Type 1} → statement M
 post-settlement-spec =
     tie.close
-    (tie.spec settled-requires (λ c κs. search rules) (λ c κs. search rules) (λ c κs. search rules) stored-requires returns)
+    (tie.spec
+    (λ c κs. search rules)
+    (λ c κs. search rules)
+    filing-of-requires
+    filing-of-requires-2
+    (λ c κs. search rules)
+    (λ c κs. search rules)
+    (λ c κs. search rules)
+    returns)

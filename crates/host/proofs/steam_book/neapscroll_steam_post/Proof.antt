@@ -1,54 +1,12 @@
--- `neapscroll_steam_post` hands on what the posting gives, case by case of the answer. Assumes nothing.
-use mathlib.Core.Path.{◌≡◌, ap, ◌∙◌}
+-- `neapscroll_steam_post` hands on what the posting gives. Assumes nothing.
+use mathlib.Core.Path.{ap, ◌∙◌}
 use borrow.Author.Rules.{rules}
-use Rattle.steam_rules.specs.Refusals.{post_of}
 use Rattle.host.proofs.steam_book.neapscroll_steam_post.Statement.{statement}
 use Rattle.host.specs.Replies.{steam_reply}
 use Rattle.host.proofs.steam_book.neapscroll_steam_post.Tie as tie
 
--- the reply for what was posted is that for what the rules give
-given : (c : tie.After-post) → steam_reply c.post.result ≡ steam_reply (post_of c.before.args.book c.before.args.posting)
-given c = ap steam_reply c.post.ensures
-
 returns : tie.Need-returns
-returns c = let d = c.before.before.before in
-    (simp (d.done.ensures, c.before.answer.given.1)) ∙ given d.before.before
-
-returns-2 : tie.Need-returns-2
-returns-2 c = let d = c.before.before in
-    (simp (d.done.ensures, c.enum_told.given.1)) ∙ given d.before.before
-
-returns-3 : tie.Need-returns-3
-returns-3 c = let d = c.before.before.before in
-    (simp (d.done.ensures, c.before.answer2.given.1)) ∙ given d.before.before
-
-returns-4 : tie.Need-returns-4
-returns-4 c = let d = c.before.before in
-    (simp (d.done.ensures, c.enum-told2.given.1)) ∙ given d.before.before
-
-returns-5 : tie.Need-returns-5
-returns-5 c = let d = c.before.before in
-    (simp (d.done.ensures, c.enum-told3.given.1)) ∙ given d.before.before
-
-returns-6 : tie.Need-returns-6
-returns-6 c = let d = c.before.before.before in
-    (simp (d.done.ensures, c.before.answer3.given.1)) ∙ given d.before.before
+returns c = c.reply-with.ensures ∙ ap steam_reply c.before.post.ensures
 
 pub neapscroll-steam-post-spec : {M : Type 1} → statement M
-neapscroll-steam-post-spec =
-    tie.close
-    (tie.spec
-    (λ c κs. search rules)
-    (λ c κs. search rules)
-    (λ c. search rules)
-    returns
-    (λ c. search rules)
-    returns-2
-    (λ c. search rules)
-    returns-3
-    (λ c. search rules)
-    returns-4
-    (λ c. search rules)
-    returns-5
-    (λ c. search rules)
-    returns-6)
+neapscroll-steam-post-spec = tie.close (tie.spec (λ c κs. search rules) (λ c κs. search rules) returns)

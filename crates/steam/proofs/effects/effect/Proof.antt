@@ -1,11 +1,13 @@
--- `effects::effect` stores or refuses the effect of the posting's kind, each arm that of its own. Assumes nothing.
+-- `effects::effect` is the effect of the posting's kind, each arm that of its own. Assumes nothing.
 use mathlib.Core.Path.{◌≡◌}
 use borrow.Author.Rules.{rules}
 use Rattle.postings.specs.Kinds.{kind_of}
 use Rattle.postings.specs.Ranged.{ranged_as}
 use Rattle.postings.specs.declared.Book.TheVariants.{Steam}
+use Rattle.riders.specs.Posts.{stored_same}
 use Rattle.steam.proofs.ByKind.{stored_as_kind, is_reconciliation}
 use Rattle.steam.proofs.effects.effect.Statement.{statement}
+use Rattle.steam.specs.Stored.{fits}
 use Rattle.steam.proofs.effects.effect.Tie as tie
 
 seven : (c : tie.At-match-rest) → c.before.args.posting.kind ≡ 7
@@ -37,15 +39,15 @@ post-reconciliation-requires c κs = (c.before.requires.0, ranged_as Steam c.bef
 
 returns : tie.Need-returns
 unfolding kind_of
-returns c = let s = c.before.before.args in stored_as_kind s.book s.posting c.before.match.keys1 c.post-cost.ensures
+returns c = let s = c.before.before.args in stored_as_kind s.book s.posting c.before.match.keys1 (stored_same fits c.post-cost.ensures)
 
 returns-2 : tie.Need-returns-2
 unfolding kind_of
-returns-2 c = let s = c.before.before.args in stored_as_kind s.book s.posting c.before.match.keys2 c.post-sales.ensures
+returns-2 c = let s = c.before.before.args in stored_as_kind s.book s.posting c.before.match.keys2 (stored_same fits c.post-sales.ensures)
 
 returns-3 : tie.Need-returns-3
 unfolding kind_of
-returns-3 c = let s = c.before.before.args in stored_as_kind s.book s.posting c.before.match.keys3 c.post-bill.ensures
+returns-3 c = let s = c.before.before.args in stored_as_kind s.book s.posting c.before.match.keys3 (stored_same fits c.post-bill.ensures)
 
 returns-4 : tie.Need-returns-4
 unfolding kind_of
@@ -53,11 +55,11 @@ returns-4 c = let s = c.before.before.args in stored_as_kind s.book s.posting c.
 
 returns-5 : tie.Need-returns-5
 unfolding kind_of
-returns-5 c = let s = c.before.before.args in stored_as_kind s.book s.posting c.before.match.keys5 c.post-month-end.ensures
+returns-5 c = let s = c.before.before.args in stored_as_kind s.book s.posting c.before.match.keys5 (stored_same fits c.post-month-end.ensures)
 
 returns-6 : tie.Need-returns-6
 unfolding kind_of
-returns-6 c = let s = c.before.before.args in stored_as_kind s.book s.posting c.before.match.keys6 c.post-adjustment.ensures
+returns-6 c = let s = c.before.before.args in stored_as_kind s.book s.posting c.before.match.keys6 (stored_same fits c.post-adjustment.ensures)
 
 returns-7 : tie.Need-returns-7
 unfolding kind_of

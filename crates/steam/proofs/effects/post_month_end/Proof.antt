@@ -1,28 +1,36 @@
--- `effects::post_month_end` stores the effect of a month's end or refuses it, by the limits of the account. Assumes nothing.
-use mathlib.Core.Path.{sym, ap, ◌∙◌}
+-- `effects::post_month_end` is the effect of a month's end: the run that enters, then the reconciliation's month, then the month moves on.
+-- Assumes nothing.
+use mathlib.Core.Path.{sym, ap, ◌∙◌, subst}
+use Prim.Native.Nat.{ℕ, ◌≤◌}
 use borrow.Author.Rules.{rules}
-use Rattle.amounts.specs.Amounts.{cents_in_limits}
-use Rattle.steam_rules.specs.declared.Posted.{Posted}
-use Rattle.steam_rules.specs.MonthEnd.{month_end_decides}
-use Rattle.steam_rules.specs.Next.{next_at}
-use Rattle.steam_rules.specs.Ranges.{book_within}
+use Rattle.ints.specs.Range.{Within}
+use Rattle.riders.specs.Runs.{RunWithin}
+use Rattle.steam_rules.specs.declared.SteamBook.{SteamBook}
+use Rattle.postings.specs.declared.Answer.TheVariants.{Done}
+use Rattle.steam_rules.specs.Book.{posted}
+use Rattle.steam_rules.specs.Next.{ended_with, entered, reconciled, month_ended, next_at, answer_at}
+use Rattle.steam_rules.specs.Calendar.{entering_to}
+use Rattle.steam.proofs.MonthEnds.{entered_within}
 use Rattle.steam.proofs.effects.post_month_end.Statement.{statement}
-use Rattle.steam.specs.Stored.{fits, stored_or12}
 use Rattle.steam.proofs.effects.post_month_end.Tie as tie
 
-month-ended-requires : tie.Need-month-ended-requires
-month-ended-requires c κs = book_within c.args.book c.requires
+few : (c : tie.After-entering) → c.entering.result ≤ 4
+few c = subst (λ (n : ℕ). n ≤ 4) (sym c.entering.ensures) (entering_to c.before.args.book.month)
 
-stored-requires : tie.Need-stored-requires
-unfolding next_at
-stored-requires c κs = let s = c.before.before in
-    let e = c.before.month-ended.ensures in
-    ap fits e ∙ month_end_decides s.args.book s.requires
-    ∙ ap (λ (r : Posted). cents_in_limits r.book.carried) (sym e)
-    ∙ sym c.in-limits.ensures
+entered-requires : tie.Need-entered-requires
+entered-requires c κs = (few c, c.before.requires)
+
+reconciled-requires : tie.Need-reconciled-requires
+reconciled-requires c κs = subst (λ (b : SteamBook). Within 2000000000000 b.carried.0 × RunWithin b.reconciliation.run) (sym c.entered.ensures) (entered_within _ _ (few c.before) c.before.before.requires)
 
 returns : tie.Need-returns
-returns c = c.stored.ensures ∙ ap (stored_or12 c.before.before.before.args.book) c.before.before.month-ended.ensures
+unfolding next_at answer_at month_ended
+returns c = let b = c.before.before.before.before.args.book in
+    let run = c.before.before.before.entering.ensures in
+    let moved = c.before.reconciled.ensures ∙ ap reconciled (c.before.before.entered.ensures ∙ ap (λ (n : ℕ). entered n b) run) in
+    λ i. posted Done (ended_with (moved i) (c.month-after.ensures i))
 
 pub post-month-end-spec : {M : Type 1} → statement M
-post-month-end-spec = tie.close (tie.spec month-ended-requires (λ c κs. search rules) stored-requires returns)
+post-month-end-spec =
+    tie.close
+    (tie.spec (λ c κs. search rules) entered-requires reconciled-requires (λ c κs. search rules) returns)

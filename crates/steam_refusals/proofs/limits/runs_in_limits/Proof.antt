@@ -9,7 +9,7 @@ returns : tie.Need-returns
 unfolding runs_in_limits
 returns c = λ i.
     c.before.before.before.in-limits.ensures i && (c.before.before.factors-in-limits.ensures i
-    && (c.before.dues-in-limits.ensures i && c.in-limits2.ensures i))
+    && (c.before.dues-in-limits.ensures i && c.reconciliation-in-limits.ensures i))
 
 pub runs-in-limits-spec : {M : Type 1} → statement M
 runs-in-limits-spec =

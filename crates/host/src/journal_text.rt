@@ -1,5 +1,4 @@
-// The journal for a host: bytes in, text into a lent buffer. It stands apart from `host`, where its loop would be a second caller of each
-// book's posting, and a posting slower for it.
+// The journal for a host: bytes in, text into a lent buffer.
 ghost use Rattle.std.specs.Prelude.{◌≡◌, ◌≤◌, length};
 ghost use Rattle.amounts.specs.Text.{text_written, text_left};
 ghost use Rattle.journal.specs.Journal.{journal_of, room_of};
