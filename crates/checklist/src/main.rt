@@ -1,4 +1,5 @@
 // The field engineer's checklist: short histories of postings to fresh books, each value that was seen beside what it should be.
+#![tactic(auto)]
 mod electric_postings;
 mod handover;
 mod print;

@@ -1,4 +1,5 @@
 // The body that the journal programs share: reads an input, prints its journal, and says what could not be read or written.
+#![tactic(auto)]
 ghost use Rattle.std.specs.Prelude.{◌≡◌, ◌≤◌, length, take};
 ghost use Rattle.amounts.specs.Text.{text_left};
 ghost use Rattle.journal.specs.Journal.{journal_of, room_of};

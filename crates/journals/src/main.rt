@@ -1,4 +1,5 @@
 // Runs the journal program on each file that its arguments name, and prints the file's name before what it prints.
+#![tactic(auto)]
 use libc::{STDERR_FILENO, STDOUT_FILENO};
 
 fn print_name(name: &[u8]) {

@@ -1,4 +1,5 @@
 // The journal program: reads a journal from standard input and prints a line for each of its records.
+#![tactic(auto)]
 use libc::STDIN_FILENO;
 
 fn main() {

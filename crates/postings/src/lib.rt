@@ -1,4 +1,5 @@
 // Postings: what a book is given and what it answers, with the table of kinds and fields.
+#![tactic(auto)]
 ghost use Rattle.std.specs.Prelude.{◌≡◌};
 ghost use Rattle.postings.specs.Kinds.{unknown_kind, stray_number, out_of_range};
 

@@ -1,4 +1,5 @@
 // Prints rounded quotients and weights: the paper's figures, the edges of 64 bits, and what lies outside.
+#![tactic(auto)]
 use libc::{STDERR_FILENO, STDOUT_FILENO};
 
 fn write(text: &[u8]) -> bool {
