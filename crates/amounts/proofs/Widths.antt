@@ -38,7 +38,7 @@ start n = record { digits = omega (arith, ap width_of (mul-div_cancel n {n = 10}
 
 module _ (n width power : ℕ) (c : Counted n width power) where
   pub positive : 1 ≤ power
-  positive = subst (λ (p : ℕ). 1 ≤ p) (sym c.is-power) (one-le-pow width 10 (omega arith))
+  positive = subst (λ (p : ℕ). 1 ≤ p) (sym c.is_power) (one-le-pow width 10 (omega arith))
 
   pub again : n < 10 ^ 18 → power ≤ n → Counted n (width + 1) (power * 10)
   again small h =
@@ -49,14 +49,14 @@ module _ (n width power : ℕ) (c : Counted n width power) where
       let next : width + 1 ≡ suc width = omega arith in
       record {
         digits = omega (arith, c.digits);
-        is_power = ap (λ (p : ℕ). p * 10) c.is-power ∙ sym (pow-suc 10 width) ∙ ap (λ (w : ℕ). 10 ^ w) (sym next);
+        is_power = ap (λ (p : ℕ). p * 10) c.is_power ∙ sym (pow-suc 10 width) ∙ ap (λ (w : ℕ). 10 ^ w) (sym next);
         few = few_by (leb 18 width) refl;
       }
     where
       few_by : (t : Bool) → leb 18 width ≡ t → width + 1 ≤ 18
       few_by true q =
           let p : 10 ^ 18 ≤ 10 ^ width = pow-le-pow_right (lit< tt) (leb-true 18 width q) in
-          absurd (omega (arith, c.is-power))
+          absurd (omega (arith, c.is_power))
       few_by false q = omega (arith, leb-false 18 width q)
 
   pub done : n < power → width ≡ width_of n

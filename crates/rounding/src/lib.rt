@@ -1,5 +1,6 @@
 // Quotients rounded to the nearest whole number. How a half goes is said in `tie` alone, and in specs/ in `tie_of` alone.
 #![tactic(auto)]
+
 ghost use Rattle.std.specs.Prelude.{◌≡◌, ◌*◌, ◌≤◌, ◌<◌, nat_abs};
 ghost use Rattle.rounding.specs.Round.{tie_of, rounded_of, nearest_of, with_sign, round};
 ghost use Rattle.rounding.specs.Weight.{weight_or0};

@@ -1,0 +1,10 @@
+-- `amounts::Cents::write` writes the text of cents. Assumes nothing.
+use mathlib.Core.Path.{◌∙◌}
+use borrow.Author.Rules.{rules}
+use Rattle.amounts.proofs.Texts.{answered}
+use Rattle.amounts.proofs.Cents.write.Goals as goal
+
+pub returns : goal.returns
+returns c =
+    let p = c.put-length in
+    (c.written.ensures ∙ answered _ _ _ _ p.ensures.0 (search rules), p.ensures.2)
