@@ -10,12 +10,12 @@ pub mod text;
 
 // Money in whole cents.
 #[repr(C)]
-#[derive(Drop)]
+#[derive(Clone, Copy)]
 pub struct Cents(pub i64);
 
 // A factor: points of $0.0001 per kWh or per million BTU.
 #[repr(C)]
-#[derive(Drop)]
+#[derive(Clone, Copy)]
 pub struct Points(pub i32);
 
 impl Cents {

@@ -12,17 +12,17 @@ use riders::Run;
 
 // Sales in kWh.
 #[repr(C)]
-#[derive(Drop)]
+#[derive(Clone, Copy)]
 pub struct Kwh(pub i64);
 
 // What rounding left of the customers' shares, in hundred-thousandths of a cent: document 01's rem.
 #[repr(C)]
-#[derive(Drop)]
+#[derive(Clone, Copy)]
 pub struct Remainder(pub i64);
 
 // A voltage level: document 01's C, I, pending run and two runs.
 #[repr(C)]
-#[derive(Drop)]
+#[derive(Clone, Copy)]
 pub struct Level {
     pub carried: Cents,
     pub interest: Cents,
@@ -33,7 +33,7 @@ pub struct Level {
 
 // Sales by level, actual or estimated: document 01's Ss and Sp, or Rs and Rp.
 #[repr(C)]
-#[derive(Drop)]
+#[derive(Clone, Copy)]
 pub struct Sales {
     pub secondary: Kwh,
     pub primary: Kwh,
@@ -41,7 +41,7 @@ pub struct Sales {
 
 // The open period: document 01's K, its sales, and the remainder of the periods before.
 #[repr(C)]
-#[derive(Drop)]
+#[derive(Clone, Copy)]
 pub struct Period {
     pub cost: Cents,
     pub sales: Sales,
@@ -50,7 +50,7 @@ pub struct Period {
 
 // A division's book: the open period and both levels.
 #[repr(C)]
-#[derive(Drop)]
+#[derive(Clone, Copy)]
 pub struct ElectricBook {
     pub division: u8,
     pub month: u8,
@@ -63,7 +63,7 @@ pub struct ElectricBook {
 // The rates of a division: the customers' percentage of a variance, the base in hundred-thousandths of a dollar per kWh, and the loss
 // factors by level over 100,000.
 #[repr(C)]
-#[derive(Drop)]
+#[derive(Clone, Copy)]
 pub struct Rates {
     pub percentage: i64,
     pub base: i64,
@@ -72,7 +72,7 @@ pub struct Rates {
 }
 
 // An answer and the book after it.
-#[derive(Drop)]
+#[derive(Clone, Copy)]
 pub struct Posted {
     pub answer: Answer,
     pub book: ElectricBook,

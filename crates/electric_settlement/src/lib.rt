@@ -22,11 +22,11 @@ const PARTS: i64 = 100_000;
 const WHOLE: i64 = 100_000;
 
 // The secondary level's part of the customers' share, in hundred-thousandths.
-#[derive(Drop)]
+#[derive(Clone, Copy)]
 struct Weight(i64);
 
 // Both levels' shares, and the remainder that is left.
-#[derive(Drop)]
+#[derive(Clone, Copy)]
 pub struct Shares {
     pub secondary: Cents,
     pub primary: Cents,

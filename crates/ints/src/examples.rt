@@ -4,10 +4,10 @@ ghost use Rattle.std.specs.Prelude.{◌≡◌, cond, pos, neg_ℤ, ◌+ℤ◌, �
 ghost use Rattle.ints.specs.Range.{Between, Within, in_range};
 ghost use Rattle.ints.specs.Machine.{eq_z};
 
-#[derive(Drop)]
+#[derive(Clone, Copy)]
 struct Money(i64);
 
-#[derive(Drop)]
+#[derive(Clone, Copy)]
 struct Rate(i32);
 
 // Sums and products: each fits by the ranges of its parts, and the result is the formula.

@@ -9,7 +9,7 @@ pub mod kinds;
 mod ranges;
 
 // Which book a posting is for: the electric one (fuel adjustment) or the steam one (quarterly cost adjustment).
-#[derive(Drop)]
+#[derive(Clone, Copy)]
 pub enum Book {
     Electric,
     Steam,
@@ -17,7 +17,7 @@ pub enum Book {
 
 // A posting in memory: a kind and three numbers.
 #[repr(C)]
-#[derive(Drop)]
+#[derive(Clone, Copy)]
 pub struct Posting {
     pub kind: u8,
     pub first: i64,
@@ -27,7 +27,7 @@ pub struct Posting {
 
 // What a book answers to a posting: a bill's line, the factors that a settlement filed (one a level on the electric book, one on the
 // steam book), a month's interest for both levels, that it is done, or a refusal's number.
-#[derive(Drop)]
+#[derive(Clone, Copy)]
 pub enum Answer {
     Line(Cents),
     FiledLevels(Points, Points),

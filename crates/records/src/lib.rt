@@ -13,7 +13,7 @@ mod parts;
 // What reading at a place gives: 0, the next place and the posting; or the number of a refusal, the place, and a posting of kind 0,
 // which is a kind of no book.
 #[repr(C)]
-#[derive(Drop)]
+#[derive(Clone, Copy)]
 pub struct Read {
     pub number: u8,
     pub place: usize,

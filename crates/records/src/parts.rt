@@ -51,7 +51,7 @@ pub(crate) fn refused(number: u8, place: usize) -> Read
 }
 
 // What a bit of the map finds at a place: the number, the place after it, and whether it is a field of 0.
-#[derive(Drop)]
+#[derive(Clone, Copy)]
 pub struct Step {
     pub number: i64,
     pub next: usize,

@@ -3,7 +3,7 @@
 
 // What a writer answers: 0 and how many bytes it wrote, or document 01's number of the refusal and 0.
 #[repr(C)]
-#[derive(Drop)]
+#[derive(Clone, Copy)]
 pub struct Written {
     pub number: u8,
     pub length: usize,

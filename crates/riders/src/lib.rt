@@ -13,7 +13,7 @@ const BEYOND: i32 = Points::MOST + 1;
 
 // A factor and the cents that are due under it: document 01's f and d, or q and Q while it is pending.
 #[repr(C)]
-#[derive(Drop)]
+#[derive(Clone, Copy)]
 pub struct Run {
     pub factor: Points,
     pub due: Cents,
@@ -56,7 +56,7 @@ impl Run {
 }
 
 // A factor before it is known to be one that a book may store.
-#[derive(Drop)]
+#[derive(Clone, Copy)]
 struct Quotient(i64);
 
 impl Quotient {

@@ -3,7 +3,7 @@ ghost use Rattle.std.specs.Prelude.{◌≡◌, pos, ◌*ℤ◌, ◌-ℤ◌};
 ghost use Rattle.ints.specs.Range.{Between, Within};
 ghost use Rattle.rounding.specs.Round.{round};
 
-#[derive(Drop)]
+#[derive(Clone, Copy)]
 struct Money(i64);
 
 // By a numeral: `rounds`.

@@ -18,11 +18,11 @@ use postings::{Book, Posting};
 use steam_rules::{Reconciliation, SteamBook};
 
 // Factors together.
-#[derive(Drop)]
+#[derive(Clone, Copy)]
 struct Factors(i64);
 
 // The factors up to each run together; the last are all five.
-#[derive(Drop)]
+#[derive(Clone, Copy)]
 struct Totals {
     first: Factors,
     second: Factors,
@@ -32,7 +32,7 @@ struct Totals {
 }
 
 // The lines of the factors up to each run; the last is the bill's own.
-#[derive(Drop)]
+#[derive(Clone, Copy)]
 pub(crate) struct Lines {
     pub first: Cents,
     pub second: Cents,

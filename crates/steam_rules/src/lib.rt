@@ -12,17 +12,17 @@ use riders::Run;
 
 // Sales of steam in million BTU.
 #[repr(C)]
-#[derive(Drop)]
+#[derive(Clone, Copy)]
 pub struct Mmbtu(pub i64);
 
 // What rounding left of the customers' shares, in ten-thousandths of a cent: document 01's rem.
 #[repr(C)]
-#[derive(Drop)]
+#[derive(Clone, Copy)]
 pub struct Remainder(pub i64);
 
 // The open quarter: document 01's K and B, and the remainder of the quarters before.
 #[repr(C)]
-#[derive(Drop)]
+#[derive(Clone, Copy)]
 pub struct Period {
     pub cost: Cents,
     pub sales: Mmbtu,
@@ -31,7 +31,7 @@ pub struct Period {
 
 // The reconciliation run and the months that it has left, none where none runs.
 #[repr(C)]
-#[derive(Drop)]
+#[derive(Clone, Copy)]
 pub struct Reconciliation {
     pub run: Run,
     pub months: u8,
@@ -39,7 +39,7 @@ pub struct Reconciliation {
 
 // Past quarters stand oldest first; factors and dues are those of runs 1 to 4; carried is document 01's account A.
 #[repr(C)]
-#[derive(Drop)]
+#[derive(Clone, Copy)]
 pub struct SteamBook {
     pub month: u8,
     pub settled: bool,
@@ -53,7 +53,7 @@ pub struct SteamBook {
 }
 
 // An answer and the book after it.
-#[derive(Drop)]
+#[derive(Clone, Copy)]
 pub struct Posted {
     pub answer: Answer,
     pub book: SteamBook,

@@ -22,7 +22,7 @@ const BASE: i64 = 30_050;
 const PARTS: i64 = 10_000;
 
 // A quarter's share and the quarter after it.
-#[derive(Drop)]
+#[derive(Clone, Copy)]
 pub struct Shared {
     pub share: Cents,
     pub period: Period,
