@@ -4,7 +4,7 @@ use Rattle.std.proofs.Common.{arith, ltb-false}
 use Rattle.std.specs.Int.Signed.{lt_z}
 use Rattle.ints.specs.Digits.{digits}
 use Rattle.refusals.specs.Rows.{Row, row}
-use Rattle.refusals.specs.Laws.{by-table}
+use Rattle.refusals.specs.Laws.{by_table_lem}
 use Rattle.refusals.specs.Writer.{wrote, writer_refused, too_short, written_by, buffer_left}
 use Rattle.refusals.specs.declared.Written.{Written}
 use Rattle.amounts.specs.declared.Cents.{Cents}
@@ -63,5 +63,5 @@ text_left text buffer = buffer_left (text_rows text buffer) text buffer
 pub written_within : (text buffer : List ℕ) → (text_written text buffer).length ≤ length buffer
 unfolding text_written too_short
 written_within text buffer =
-    by-table (λ (w : Written). w.length ≤ length buffer) (text_rows text buffer) (wrote (length text)) writer_refused tt
+    by_table_lem (λ (w : Written). w.length ≤ length buffer) (text_rows text buffer) (wrote (length text)) writer_refused tt
     (λ none. ltb-false (length buffer) (length text) none.0) (λ n refuses. omega arith)

@@ -8,7 +8,7 @@ use lib.IntN.{ℤ, pos, ◌+ℤ◌, ◌-ℤ◌, ◌*ℤ◌}
 use borrow.Author.Tests.{not-false}
 use Rattle.ints.specs.Flags.{both}
 use Rattle.ints.specs.Range.{Within}
-use Rattle.refusals.specs.Laws.{by-table}
+use Rattle.refusals.specs.Laws.{by_table_lem}
 use Rattle.postings.specs.Kinds.{Kind, cost, sales, bill, settle, month_end, adjust, reconcile, unknown, kind_of, table_of, is_none, unknown_kind}
 use Rattle.postings.specs.declared.Book.TheVariants.{Electric}
 use Rattle.postings.specs.declared.Posting.{Posting}
@@ -19,7 +19,7 @@ use Rattle.riders.specs.Rules.{left_by, answered_by, by-rules}
 use Rattle.riders.specs.Histories.{was_accepted, line_answered, entry_of, kept_after}
 use Rattle.electric_rules.proofs.Waiting.{clear, settle_clear, month_turns}
 use Rattle.electric_rules.proofs.Shares.{Shared, settled_shared}
-use Rattle.electric_rules.proofs.LevelSteps.{LevelKept, billed_keeps, adjusted_keeps, settled_keeps, ended-keeps}
+use Rattle.electric_rules.proofs.LevelSteps.{LevelKept, billed_keeps, adjusted_keeps, settled_keeps, ended_keeps}
 use Rattle.electric_rules.specs.declared.Rates.{Rates}
 use Rattle.electric_rules.specs.declared.Period.{Period}
 use Rattle.electric_rules.specs.declared.Sales.{Sales}
@@ -135,8 +135,8 @@ module _ (rates : Rates) (b : ElectricBook) (t : Tally) (p : Posting) (k : Kept 
       record {
         division = k.division;
         period = k.period;
-        secondary = ended-keeps b.secondary t.secondary k.secondary p.first _ (entering b.month) turn;
-        primary = ended-keeps b.primary t.primary k.primary p.first _ (entering b.month) turn;
+        secondary = ended_keeps b.secondary t.secondary k.secondary p.first _ (entering b.month) turn;
+        primary = ended_keeps b.primary t.primary k.primary p.first _ (entering b.month) turn;
         shares = k.shares;
       }
 
@@ -176,7 +176,7 @@ fresh_kept division =
 opened_kept : (division : ℕ) → (opened_of division).answer ≡ Done → Kept (rates_of division) (opened_of division).book fresh_tally
 unfolding opened_of
 opened_kept division =
-    by-table (λ (r : Posted). r.answer ≡ Done → Kept (rates_of division) r.book fresh_tally) _ (posted Done (fresh_of division)) (refused (fresh_of 0)) tt
+    by_table_lem (λ (r : Posted). r.answer ≡ Done → Kept (rates_of division) r.book fresh_tally) _ (posted Done (fresh_of division)) (refused (fresh_of 0)) tt
     (λ none done. fresh_kept division)
     (λ n refuses done. absurd (true≢false (sym (ap was_accepted done) ∙ refuses)))
 

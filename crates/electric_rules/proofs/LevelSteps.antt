@@ -6,7 +6,7 @@ use lib.Dec.{T}
 use lib.IntN.{ℤ, pos, ◌+ℤ◌, ◌-ℤ◌}
 use Rattle.ints.specs.Ring.{solve, eq_by, ◌:+◌, ◌:-◌, ◌:*◌, ◌:=◌, #}
 use Rattle.riders.specs.Balances.{line_billed, amount_added, cents_moved}
-use Rattle.riders.specs.Waiting.{none-pending}
+use Rattle.riders.specs.Waiting.{none_pending}
 use Rattle.electric_rules.proofs.Waiting.{enters}
 use Rattle.electric_rules.proofs.Held.{held_billed, held_adjusted, held_settled, held_accrued, bearing_held, handed_over_lem}
 use Rattle.electric_rules.specs.declared.Level.{Level}
@@ -83,11 +83,11 @@ module _ {clear : Bool} (l : Level) (t : LevelTally) (k : LevelKept clear l t) w
       record {
         balances = cents_moved t.billed (held_by l) k.balances handed.held;
         accrued = (λ i. (handed.interest i).0) ∙ k.accrued;
-        pending = λ c. (λ i. (handed.pending i).due.0) ∙ none-pending after (enters n) clear l.pending h k.pending c;
+        pending = λ c. (λ i. (handed.pending i).due.0) ∙ none_pending after (enters n) clear l.pending h k.pending c;
       }
 
 -- a month's end: interest, then the run that enters
-pub ended-keeps :
+pub ended_keeps :
     {before : Bool} (l : Level) (t : LevelTally) → LevelKept before l t → (rate : ℤ) (after : Bool) (n : ℕ) → T (not after || (enters n || before)) →
     LevelKept after (handed_over n (accrued_level rate l)) (interest_counted rate t)
-ended-keeps l t k rate after n h = handed_keeps (accrued_level rate l) (interest_counted rate t) (accrued_keeps l t k rate) after n h
+ended_keeps l t k rate after n h = handed_keeps (accrued_level rate l) (interest_counted rate t) (accrued_keeps l t k rate) after n h

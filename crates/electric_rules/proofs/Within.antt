@@ -5,7 +5,7 @@ use Prim.Native.Nat.{ℕ}
 use lib.Dec.{leb}
 use borrow.Author.Tests.{not-false, ltb-false, le-leb}
 use Rattle.ints.specs.Range.{in_range}
-use Rattle.refusals.specs.Laws.{by-table}
+use Rattle.refusals.specs.Laws.{by_table_lem}
 use Rattle.amounts.specs.Amounts.{cents_in_limits, points_in_limits}
 use Rattle.postings.specs.declared.Posting.{Posting}
 use Rattle.postings.specs.declared.Answer.{Answer}
@@ -34,7 +34,7 @@ fresh_within division e = simp e
 opened_within : (division : ℕ) → in_limits (opened_of division).book ≡ true
 unfolding opened_of
 opened_within division =
-    by-table (λ (r : Posted). in_limits r.book ≡ true) _ (posted Done (fresh_of division)) (refused (fresh_of 0)) tt
+    by_table_lem (λ (r : Posted). in_limits r.book ≡ true) _ (posted Done (fresh_of division)) (refused (fresh_of 0)) tt
     (λ none. fresh_within division (le-leb division 1 (ltb-false 1 division none.0))) (λ n refuses. fresh_within 0 refl)
 
 pub never_out_of_limits : NeverOutOfLimits

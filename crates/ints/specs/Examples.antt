@@ -15,19 +15,19 @@ use Rattle.ints.specs.Range.{Between, Within, in_range, in_range_true, in_range_
 products : (x y z : ℤ) → pos 3 *ℤ x *ℤ (y -ℤ z) +ℤ pos 7 ≡ pos 3 *ℤ (x *ℤ y -ℤ z *ℤ x) +ℤ pos 7
 products = solve 3 (λ x y z. # 3 :* x :* (y :- z) :+ # 7 := # 3 :* (x :* y :- z :* x) :+ # 7) tt
 
-thirty-two-monomials :
+thirty_two_monomials :
     (a b c d e f g h : ℤ) →
     (a +ℤ b +ℤ c +ℤ d) *ℤ (e +ℤ f +ℤ g +ℤ h) *ℤ (a -ℤ e) ≡ (a -ℤ e) *ℤ (h +ℤ f +ℤ g +ℤ e) *ℤ (d +ℤ c +ℤ b +ℤ a)
-thirty-two-monomials =
+thirty_two_monomials =
     solve 8 (λ a b c d e f g h. (a :+ b :+ c :+ d) :* (e :+ f :+ g :+ h) :* (a :- e) := (a :- e) :* (h :+ f :+ g :+ e) :* (d :+ c :+ b :+ a)) tt
 
-twenty-unknowns :
+twenty_unknowns :
     (x0 x1 x2 x3 x4 x5 x6 x7 x8 x9 x10 x11 x12 x13 x14 x15 x16 x17 x18 x19 : ℤ) →
     pos 2 *ℤ x0 +ℤ pos 3 *ℤ x1 +ℤ pos 4 *ℤ x2 +ℤ pos 5 *ℤ x3 +ℤ pos 6 *ℤ x4 +ℤ pos 7 *ℤ x5 +ℤ pos 8 *ℤ x6 +ℤ pos 9 *ℤ x7 +ℤ pos 10 *ℤ x8 +ℤ pos 11 *ℤ x9
     +ℤ pos 12 *ℤ x10 +ℤ pos 13 *ℤ x11 +ℤ pos 14 *ℤ x12 +ℤ pos 15 *ℤ x13 +ℤ pos 16 *ℤ x14 +ℤ pos 17 *ℤ x15 +ℤ pos 18 *ℤ x16 +ℤ pos 19 *ℤ x17 +ℤ pos 20 *ℤ x18 +ℤ pos 21 *ℤ x19
     ≡ pos 19 *ℤ x17 +ℤ pos 17 *ℤ x15 +ℤ pos 13 *ℤ x11 +ℤ pos 20 *ℤ x18 +ℤ pos 9 *ℤ x7 +ℤ pos 8 *ℤ x6 +ℤ pos 21 *ℤ x19 +ℤ pos 5 *ℤ x3 +ℤ pos 16 *ℤ x14 +ℤ pos 2 *ℤ x0
     +ℤ pos 11 *ℤ x9 +ℤ pos 7 *ℤ x5 +ℤ pos 18 *ℤ x16 +ℤ pos 10 *ℤ x8 +ℤ pos 15 *ℤ x13 +ℤ pos 4 *ℤ x2 +ℤ pos 3 *ℤ x1 +ℤ pos 14 *ℤ x12 +ℤ pos 6 *ℤ x4 +ℤ pos 12 *ℤ x10
-twenty-unknowns =
+twenty_unknowns =
     solve 20 (λ x0 x1 x2 x3 x4 x5 x6 x7 x8 x9 x10 x11 x12 x13 x14 x15 x16 x17 x18 x19.
     # 2 :* x0 :+ # 3 :* x1 :+ # 4 :* x2 :+ # 5 :* x3 :+ # 6 :* x4 :+ # 7 :* x5 :+ # 8 :* x6 :+ # 9 :* x7 :+ # 10 :* x8 :+ # 11 :* x9
     :+ # 12 :* x10 :+ # 13 :* x11 :+ # 14 :* x12 :+ # 15 :* x13 :+ # 16 :* x14 :+ # 17 :* x15 :+ # 18 :* x16 :+ # 19 :* x17 :+ # 20 :* x18 :+ # 21 :* x19

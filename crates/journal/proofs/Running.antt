@@ -12,7 +12,7 @@ use Rattle.postings.specs.declared.Answer.{Answer}
 use Rattle.postings.specs.declared.Answer.TheVariants.{Refused}
 use Rattle.riders.specs.Rules.{Rules, answered_by, left_by}
 use Rattle.records.specs.declared.Read.{Read}
-use Rattle.records.specs.Records.{read_of, found-on}
+use Rattle.records.specs.Records.{read_of, found_on}
 use Rattle.journal.proofs.Storing.{puts_then, puts_same}
 use Rattle.journal.specs.Lines.{record_line}
 use Rattle.journal.specs.Journal.{lines_from, EnoughSteps}
@@ -21,7 +21,7 @@ use Rattle.journal.specs.Steps.{Puts}
 -- a record that was read has two bytes at least, and all its bytes remain
 pub read_on : (kinds : Book) (bytes : List ℕ) (place : ℕ) (r : Read) → r ≡ read_of kinds bytes place → r.number ≡ 0 → (place + 2 ≤ r.place) × (r.place ≤ length bytes)
 read_on kinds bytes place r e z =
-    subst (λ (r : Read). (place + 2 ≤ r.place) × (r.place ≤ length bytes)) (sym e) (found-on kinds bytes place (ap (λ (r : Read). r.number) (sym e) ∙ z))
+    subst (λ (r : Read). (place + 2 ≤ r.place) × (r.place ≤ length bytes)) (sym e) (found_on kinds bytes place (ap (λ (r : Read). r.number) (sym e) ∙ z))
 
 module _ {B : Type 0} (kinds : Book) (rules : Rules B) (bytes : List ℕ) where
   abbrev pub lines : ℕ → B → ℕ → ℕ → List ℕ
@@ -56,7 +56,7 @@ module _ {B : Type 0} (kinds : Book) (rules : Rules B) (bytes : List ℕ) where
       where
         go : (t : Bool) → eqb read.number 0 ≡ t → from t (rest n) ≡ from t (rest m)
         go true e =
-            let on = found-on kinds bytes place (eqb-true read.number 0 e) in
+            let on = found_on kinds bytes place (eqb-true read.number 0 e) in
             ap (from true) (same (omega (arith, on.0, h)) (omega (arith, on.0, k)))
         go false e = refl
 

@@ -77,11 +77,11 @@ unfolding read_of
 read_number book bytes place = gives_number (reading_rows book (drop place bytes)) _ (refused_at place) (λ (r : Read). r.number) refl (λ n. refl)
 
 -- a record that is found has two bytes at least, and all its bytes remain
-pub found-on :
+pub found_on :
     (book : Book) (bytes : List ℕ) (place : ℕ) → (read_of book bytes place).number ≡ 0 →
     (place + 2 ≤ (read_of book bytes place).place) × ((read_of book bytes place).place ≤ length bytes)
 unfolding read_of record_length
-found-on book bytes place e =
+found_on book bytes place e =
     let rest = drop place bytes in
     let rows = reading_rows book rest in
     let none = sym (read_number book bytes place) ∙ e in

@@ -107,11 +107,11 @@ module _ {A : Type 0} (rows : List Row) (asked : A) (refused : ℕ → A) where
       go false e = r (refusal_by rows)
 
 -- what is so of what was asked, where no row holds, and of every refusal, is so of what a call gives
-pub by-table :
+pub by_table_lem :
     {A : Type 0} (P : A → Type 0) (rows : List Row) (asked : A) (refused : ℕ → A) → T (numbered rows) →
     (NoneHolds rows → P asked) → ((n : ℕ) → eqb n 0 ≡ false → P (refused n)) → P (by_table rows asked refused)
 unfolding by_table
-by-table P rows asked refused h accepts refuses = go (eqb (refusal_by rows) 0) refl
+by_table_lem P rows asked refused h accepts refuses = go (eqb (refusal_by rows) 0) refl
   where
     go : (t : Bool) → eqb (refusal_by rows) 0 ≡ t → P (cond t asked (refused (refusal_by rows)))
     go true e = accepts (none_holds rows h (eqb-true (refusal_by rows) 0 e))

@@ -42,9 +42,9 @@ module _ (settles : ℕ → Bool) (entering : ℕ → ℕ) (is_run : ℕ → Boo
       (all_below_lem 13 (λ (month : ℕ). turns month (settles month)) all month below)
 
 -- a month's end leads to a clear month only by way of a run that enters, or from a clear month: either way nothing is pending after it
-pub none-pending :
+pub none_pending :
     (after entered before : Bool) (pending : Run) → T (not after || (entered || before)) → (before ≡ true → pending.due.0 ≡ pos 0) →
     after ≡ true → (cond entered no_run pending).due.0 ≡ pos 0
-none-pending true true before pending h k c = refl
-none-pending true false before pending h k c = k (T_true before h)
-none-pending false entered before pending h k c = absurd (true≢false (sym c))
+none_pending true true before pending h k c = refl
+none_pending true false before pending h k c = k (T_true before h)
+none_pending false entered before pending h k c = absurd (true≢false (sym c))

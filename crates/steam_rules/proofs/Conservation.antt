@@ -6,7 +6,7 @@ use mathlib.Core.List.{List}
 use Prim.Native.Nat.{ℕ, zero, suc}
 use lib.IntN.{ℤ, pos, ◌+ℤ◌}
 use Rattle.ints.specs.Ring.{solve, ◌:+◌, ◌:=◌}
-use Rattle.refusals.specs.Laws.{by-table}
+use Rattle.refusals.specs.Laws.{by_table_lem}
 use Rattle.postings.specs.Kinds.{Kind, cost, sales, bill, settle, month_end, adjust, reconcile, unknown, kind_of, table_of, is_none, unknown_kind}
 use Rattle.postings.specs.declared.Book.TheVariants.{Steam}
 use Rattle.postings.specs.declared.Posting.{Posting}
@@ -17,7 +17,7 @@ use Rattle.riders.specs.Months.{forbidden}
 use Rattle.riders.specs.Rules.{left_by, answered_by, by-rules}
 use Rattle.riders.specs.Histories.{was_accepted, line_answered, entry_of, kept_after}
 use Rattle.riders.specs.Balances.{line_billed, amount_added, cents_moved}
-use Rattle.riders.specs.Waiting.{none-pending}
+use Rattle.riders.specs.Waiting.{none_pending}
 use Rattle.steam_rules.proofs.Waiting.{enters, clear, settle_clear, month_turns}
 use Rattle.steam_rules.proofs.Found.{dates, four_factors, four_dues, none_due}
 use Rattle.steam_rules.proofs.Held.{held_billed, held_settled, held_entered, held_reconciled, held_adjusted, held_reconciling}
@@ -139,7 +139,7 @@ module _ (b : SteamBook) (t : Tally) (p : Posting) (k : Kept b t) where
         pending =
             λ c.
             (λ i. ((lost_pending months e ∙ entered_pending n b) i).due.0)
-            ∙ none-pending _ (enters n) (clear_in b) b.pending (month_turns b.month b.settled (dates b limits) allowed) k.pending c;
+            ∙ none_pending _ (enters n) (clear_in b) b.pending (month_turns b.month b.settled (dates b limits) allowed) k.pending c;
         shares = k.shares;
       }
 
@@ -195,7 +195,7 @@ fresh_kept quarters = record { period = refl; balances = refl; pending = λ c. r
 opened_kept : (quarters : List Mmbtu) → (opened_of quarters).answer ≡ Done → Kept (opened_of quarters).book fresh_tally
 unfolding opened_of
 opened_kept quarters =
-    by-table (λ (r : Posted). r.answer ≡ Done → Kept r.book fresh_tally) _ (posted Done (fresh_of quarters)) (refused (fresh_of (four (mmbtu (pos 0))))) tt
+    by_table_lem (λ (r : Posted). r.answer ≡ Done → Kept r.book fresh_tally) _ (posted Done (fresh_of quarters)) (refused (fresh_of (four (mmbtu (pos 0))))) tt
     (λ none done. fresh_kept quarters)
     (λ n refuses done. absurd (true≢false (sym (ap was_accepted done) ∙ refuses)))
 

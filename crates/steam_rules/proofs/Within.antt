@@ -5,7 +5,7 @@ use mathlib.Core.List.{List}
 use lib.IntN.{pos}
 use borrow.Author.Tests.{not-false}
 use Rattle.ints.specs.Range.{in_range}
-use Rattle.refusals.specs.Laws.{by-table}
+use Rattle.refusals.specs.Laws.{by_table_lem}
 use Rattle.amounts.specs.Amounts.{cents_in_limits, points_in_limits}
 use Rattle.postings.specs.declared.Posting.{Posting}
 use Rattle.postings.specs.declared.Answer.{Answer}
@@ -40,7 +40,7 @@ no_sales = refl
 opened_within : (quarters : List Mmbtu) → in_limits (opened_of quarters).book ≡ true
 unfolding opened_of
 opened_within quarters =
-    by-table (λ (r : Posted). in_limits r.book ≡ true) _ (posted Done (fresh_of quarters)) (refused (fresh_of (four (mmbtu (pos 0))))) tt
+    by_table_lem (λ (r : Posted). in_limits r.book ≡ true) _ (posted Done (fresh_of quarters)) (refused (fresh_of (four (mmbtu (pos 0))))) tt
     (λ none. fresh_within quarters (not-false _ none.0)) (λ n refuses. fresh_within _ no_sales)
 
 pub never_out_of_limits : NeverOutOfLimits

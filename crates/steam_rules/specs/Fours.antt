@@ -18,10 +18,10 @@ module _ {A : Type 0} where
   as_four d (x ∷ y ∷ z ∷ w ∷ []) e = refl
   as_four d (x ∷ y ∷ z ∷ w ∷ v ∷ xs) e = absurd (omega arith)
 
-  pub tested-four :
+  pub tested_four :
       (test : A → Bool) (d : A) (xs : List A) → length xs ≡ 4 →
       test (get_or xs 0 d) && (test (get_or xs 1 d) && (test (get_or xs 2 d) && test (get_or xs 3 d))) ≡ all_four test xs
-  tested-four test d xs e =
+  tested_four test d xs e =
       ap (λ (t : Bool). test (get_or xs 0 d) && (test (get_or xs 1 d) && (test (get_or xs 2 d) && t))) (and_true (test (get_or xs 3 d)))
       ∙ ap (all_four test) (sym (as_four d xs e))
 
