@@ -17,41 +17,43 @@ use Rattle.steam_rules.specs.Refusals.{too_small}
 use Rattle.steam_refusals.proofs.too_small.Goals as goal
 
 pub overflow_cast-result : goal.overflow_cast-result
-unfolding size-bound kind_of
+unfolding kind_of
 overflow_cast-result c =
     let sized : c.size-size.result ≡ nat_abs c.args.posting.first = let p = c.args.posting in
     let w = ranged_as Steam p c.if-posting-eq6.true c.requires in
     size_read (fits64 (b_between w.0) tt) c.size-size.ensures in
-    let size-bound : Bound (pos c.size-size.result) = let p = c.args.posting in
+    let size_bound : Bound (pos c.size-size.result) = let p = c.args.posting in
     let w = ranged_as Steam p c.if-posting-eq6.true c.requires in
-    record { size = 10000000000; bound = rw (sized) (b_between w.0).bound } in
-    fits64 (size-bound) tt
+    record { size = 10000000000; bound = rw sized (b_between w.0).bound } in
+    fits64 size_bound tt
 
 pub overflow_mul-result : goal.overflow_mul-result
-unfolding read-bound kind_of size-bound
+unfolding kind_of
 overflow_mul-result c =
     let sized : c.size-size.result ≡ nat_abs c.args.posting.first = let p = c.args.posting in
     let w = ranged_as Steam p c.if-posting-eq6.true c.requires in
     size_read (fits64 (b_between w.0) tt) c.size-size.ensures in
-    let size-bound : Bound (pos c.size-size.result) = let p = c.args.posting in
+    let size_bound : Bound (pos c.size-size.result) = let p = c.args.posting in
     let w = ranged_as Steam p c.if-posting-eq6.true c.requires in
-    record { size = 10000000000; bound = rw (sized) (b_between w.0).bound } in
-    let read-bound : Bound (to_z w64 c.size-size.result) = record { size = 10000000000; bound = rw (to_z_pos w64 (fits64 (size-bound) tt).sfits) (size-bound).bound } in
-    fits64 (b_mul (b_pos _) (read-bound)) tt
+    record { size = 10000000000; bound = rw sized (b_between w.0).bound } in
+    let read_bound : Bound (to_z w64 c.size-size.result) = record { size = 10000000000; bound = rw (to_z_pos w64 (fits64 size_bound tt).sfits) size_bound.bound } in
+    fits64 (b_mul (b_pos _) read_bound) tt
 
 pub returns-then-posting-eq6 : goal.returns-then-posting-eq6
-unfolding too_small kind_of size-bound kind_of
+unfolding too_small kind_of
 returns-then-posting-eq6 c =
     let sized : c.size-size.result ≡ nat_abs c.args.posting.first = let p = c.args.posting in
     let w = ranged_as Steam p c.if-posting-eq6.true c.requires in
     size_read (fits64 (b_between w.0) tt) c.size-size.ensures in
-    let size-bound : Bound (pos c.size-size.result) = let p = c.args.posting in
+    let size_bound : Bound (pos c.size-size.result) = let p = c.args.posting in
     let w = ranged_as Steam p c.if-posting-eq6.true c.requires in
-    record { size = 10000000000; bound = rw (sized) (b_between w.0).bound } in
+    record { size = 10000000000; bound = rw sized (b_between w.0).bound } in
     let p = c.args.posting in
     let w = ranged_as Steam p c.if-posting-eq6.true c.requires in
     let g : SFits w64 p.second = fits64 (b_between w.1.0) tt in
-    let tenfold : to_z w64 (of_z w64 (pos 10 *ℤ to_z w64 c.size-size.result)) ≡ pos 10 *ℤ pos (nat_abs p.first) = to_z-of_z (mul-result c) ∙ ap (λ (z : ℤ). pos 10 *ℤ z) (to_z_pos w64 (fits64 (size-bound) tt).sfits ∙ ap pos (sized)) in
+    let read_bound : Bound (to_z w64 c.size-size.result) = record { size = 10000000000; bound = rw (to_z_pos w64 (fits64 size_bound tt).sfits) size_bound.bound } in
+    let fit : SFits w64 (pos 10 *ℤ to_z w64 c.size-size.result) = fits64 (b_mul (b_pos _) read_bound) tt in
+    let tenfold : to_z w64 (of_z w64 (pos 10 *ℤ to_z w64 c.size-size.result)) ≡ pos 10 *ℤ pos (nat_abs p.first) = to_z-of_z fit ∙ ap (λ (z : ℤ). pos 10 *ℤ z) (to_z_pos w64 (fits64 size_bound tt).sfits ∙ ap pos sized) in
     (λ i. not (lt_z (to_z-of_z g i) (tenfold i))) ∙ ap (λ (k : ℕ). too_small (kind_of k) p) (sym c.if-posting-eq6.true)
 
 pub returns : goal.returns

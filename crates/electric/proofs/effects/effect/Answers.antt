@@ -1,4 +1,5 @@
 -- `effects::effect` is the effect of the posting's kind, each arm that of its own. Assumes nothing.
+use native.Mathlib.Omega.{arith}
 use mathlib.Core.Path.{◌≡◌}
 use Rattle.postings.specs.Kinds.{kind_of}
 use Rattle.postings.specs.Ranged.{ranged_as}
@@ -36,8 +37,8 @@ post_month_end-requires c =
 pub post_adjustment-requires : goal.post_adjustment-requires
 unfolding kind_of
 post_adjustment-requires c =
-    let six : c.args.posting.kind ≡ 6 = let r = c.in_default.rest in is_adjustment _ c.requires.2 r.0.0.0.0.1 r.0.0.0.1 r.0.0.1 r.0.1 r.1 in
-    (c.requires.0, ranged_as Electric c.args.posting (six) c.requires.1)
+    let six : c.args.posting.kind ≡ 6 = is_adjustment _ c.requires.2 (λ e. omega arith) (λ e. omega arith) (λ e. omega arith) (λ e. omega arith) (λ e. omega arith) in
+    (c.requires.0, ranged_as Electric c.args.posting six c.requires.1)
 
 pub returns-in-1 : goal.returns-in-1
 unfolding kind_of
@@ -67,5 +68,5 @@ returns-in-5 c =
 pub returns-in_default : goal.returns-in_default
 unfolding kind_of
 returns-in_default c =
-    let six : c.args.posting.kind ≡ 6 = let r = c.in_default.rest in is_adjustment _ c.requires.2 r.0.0.0.0.1 r.0.0.0.1 r.0.0.1 r.0.1 r.1 in
-    let s = c.args in stored_as_kind s.book s.posting (six) (stored_same fits c.post_adjustment.ensures)
+    let six : c.args.posting.kind ≡ 6 = is_adjustment _ c.requires.2 (λ e. omega arith) (λ e. omega arith) (λ e. omega arith) (λ e. omega arith) (λ e. omega arith) in
+    let s = c.args in stored_as_kind s.book s.posting six (stored_same fits c.post_adjustment.ensures)

@@ -12,7 +12,7 @@ use Rattle.steam_refusals.proofs.limits.dues_in_limits.Goals as goal
 pub returns : goal.returns
 unfolding dues_in_limits
 returns c =
-    let x = c.args.t1 in
+    let x = c.args.dues in
     let l : length x ≡ 4 = search rules in
     (λ i. c.in_limits.ensures i && (c.in_limits-2.ensures i && (c.in_limits-3.ensures i && c.in_limits-4.ensures i)))
     ∙ tested_four cents_in_limits (cents (pos 0)) x l

@@ -12,7 +12,7 @@ use Rattle.steam_refusals.proofs.limits.factors_in_limits.Goals as goal
 pub returns : goal.returns
 unfolding factors_in_limits
 returns c =
-    let x = c.args.t1 in
+    let x = c.args.factors in
     let l : length x ≡ 4 = search rules in
     (λ i. c.in_limits.ensures i && (c.in_limits-2.ensures i && (c.in_limits-3.ensures i && c.in_limits-4.ensures i)))
     ∙ tested_four points_in_limits (points (pos 0)) x l
