@@ -15,7 +15,7 @@ use Rattle.postings.specs.declared.Posting.{Posting}
 use Rattle.postings.specs.declared.Answer.{Answer}
 use Rattle.postings.specs.declared.Answer.TheVariants.{Done}
 use Rattle.riders.specs.Months.{month_in_limits, forbidden}
-use Rattle.riders.specs.Rules.{left_by, answered_by, by-rules}
+use Rattle.riders.specs.Rules.{left_by, answered_by, by_rules}
 use Rattle.riders.specs.Histories.{was_accepted, line_answered, entry_of, kept_after}
 use Rattle.electric_rules.proofs.Waiting.{clear, settle_clear, month_turns}
 use Rattle.electric_rules.proofs.Shares.{Shared, settled_shared}
@@ -59,11 +59,11 @@ module _ (rates : Rates) (b : ElectricBook) (t : Tally) (p : Posting) (k : Kept 
   Keeps kind = Kept rates (next_at kind b p) (cond (was_accepted (answer_at kind b p)) (count_at kind rates t p (line_answered kind (answer_at kind b p))) t)
 
   -- cost and sales change the period alone, and not its remainder
-  period-keeps :
+  period_keeps :
       (cost_after : Period → ℤ) (sales_after : Period → Sales) →
       Kept rates (with_period b (period_of (cost_after b.period) (sales_after b.period) b.period.remainder.0))
       (with_period_tally t (period_of (cost_after t.period) (sales_after t.period) t.period.remainder.0))
-  period-keeps cost_after sales_after =
+  period_keeps cost_after sales_after =
       record {
         division = k.division;
         period = ap (λ (q : Period). period_of (cost_after q) (sales_after q) q.remainder.0) k.period;
@@ -74,17 +74,17 @@ module _ (rates : Rates) (b : ElectricBook) (t : Tally) (p : Posting) (k : Kept 
 
   cost_keeps : Keeps cost
   unfolding next_at answer_at count_at cost_posted cost_counted
-  cost_keeps = period-keeps (λ q. (cost_posted (with_period b q) p).period.cost.0) (λ q. q.sales)
+  cost_keeps = period_keeps (λ q. (cost_posted (with_period b q) p).period.cost.0) (λ q. q.sales)
 
   sales_keeps : Keeps sales
   unfolding next_at answer_at count_at sales_posted sales_counted
-  sales_keeps = period-keeps (λ q. q.cost.0) (λ q. (sales_posted (with_period b q) p).period.sales)
+  sales_keeps = period_keeps (λ q. q.cost.0) (λ q. (sales_posted (with_period b q) p).period.sales)
 
   -- bill and adjust change the level that they name alone, and not its shares
-  levels-keep :
+  levels_keep :
       (l m : Level) (u v : LevelTally) → u.shares ≡ t.secondary.shares → v.shares ≡ t.primary.shares →
       LevelKept (clear_in b) l u → LevelKept (clear_in b) m v → Kept rates (with_levels b l m) (with_level_tallies t u v)
-  levels-keep l m u v e f secondary primary =
+  levels_keep l m u v e f secondary primary =
       record {
         division = k.division;
         period = k.period;
@@ -93,12 +93,12 @@ module _ (rates : Rates) (b : ElectricBook) (t : Tally) (p : Posting) (k : Kept 
         shares = subst (λ (shares : ℤ). sharing.Shared 50000 rates.percentage shares t.period.remainder.0 t.variances) (λ i. sym e i +ℤ sym f i) k.shares;
       }
 
-  one-level :
+  one_level :
       (first : Bool) (l : Level) (u : LevelTally) → u.shares ≡ (cond first t.secondary t.primary).shares → LevelKept (clear_in b) l u →
       Kept rates (cond first (with_levels b l b.primary) (with_levels b b.secondary l))
       (cond first (with_level_tallies t u t.primary) (with_level_tallies t t.secondary u))
-  one-level true l u same kept = levels-keep l b.primary u t.primary same refl kept k.primary
-  one-level false l u same kept = levels-keep b.secondary l t.secondary u refl same k.secondary kept
+  one_level true l u same kept = levels_keep l b.primary u t.primary same refl kept k.primary
+  one_level false l u same kept = levels_keep b.secondary l t.secondary u refl same k.secondary kept
 
   level_kept : (first : Bool) → LevelKept (clear_in b) (cond first b.secondary b.primary) (cond first t.secondary t.primary)
   level_kept true = k.secondary
@@ -106,11 +106,11 @@ module _ (rates : Rates) (b : ElectricBook) (t : Tally) (p : Posting) (k : Kept 
 
   bill_keeps : Keeps bill
   unfolding next_at answer_at count_at bill_posted line_answer line_counted
-  bill_keeps = one-level (is_secondary p.first) _ _ refl (billed_keeps _ _ (level_kept (is_secondary p.first)) p.second)
+  bill_keeps = one_level (is_secondary p.first) _ _ refl (billed_keeps _ _ (level_kept (is_secondary p.first)) p.second)
 
   adjust_keeps : Keeps adjust
   unfolding next_at answer_at count_at adjust_posted adjustment_counted
-  adjust_keeps = one-level (is_secondary p.first) _ _ refl (adjusted_keeps _ _ (level_kept (is_secondary p.first)) p.second)
+  adjust_keeps = one_level (is_secondary p.first) _ _ refl (adjusted_keeps _ _ (level_kept (is_secondary p.first)) p.second)
 
   settle_keeps : forbidden settle (settles b.month) b.settled ≡ false → Keeps settle
   unfolding next_at answer_at count_at settle_posted filed_answer settle_counted share_counted waiting.clear
@@ -155,7 +155,7 @@ module _ (rates : Rates) (b : ElectricBook) (t : Tally) (p : Posting) (k : Kept 
 posting_keeps : (rates : Rates) (b : ElectricBook) (t : Tally) (p : Posting) → Kept rates b t → Kept rates (left_by rules b p) (count_of rates t (entry_of p (answered_by rules b p)))
 unfolding count_of unknown_kind
 posting_keeps rates b t p k =
-    by-rules rules (λ (next : ElectricBook) (answer : Answer). Kept rates next (count_of rates t (entry_of p answer))) b p tt
+    by_rules rules (λ (next : ElectricBook) (answer : Answer). Kept rates next (count_of rates t (entry_of p answer))) b p tt
     (λ none. kind_keeps rates b t p k (kind_of p.kind) none.0 none.1.1.0 none.1.1.1.1.0)
     (λ n refused. simp refused k)
 

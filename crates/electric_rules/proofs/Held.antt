@@ -18,37 +18,37 @@ five_and n = suc (suc (suc (suc (suc n))))
 
 module _ (l : Level) where
   -- `solve` over the level's cents C, I, Q, d1, d2, and n unknowns more
-  solve-cents :
+  solve_cents :
       (n : ℕ) (f : Over (five_and n)) → T (sides_agree (numbered (five_and n) 0 f)) →
       ForAll n (λ (more : List ℤ). Holds (numbered (five_and n) 0 f) (l.carried.0 ∷ l.interest.0 ∷ l.pending.due.0 ∷ l.first.due.0 ∷ l.second.due.0 ∷ more))
-  solve-cents n f t = solve (five_and n) f t l.carried.0 l.interest.0 l.pending.due.0 l.first.due.0 l.second.due.0
+  solve_cents n f t = solve (five_and n) f t l.carried.0 l.interest.0 l.pending.due.0 l.first.due.0 l.second.due.0
 
   pub held_billed : (u : ℤ) → held_by (billed_level u l) ≡ held_by l -ℤ level_line u l
   unfolding held_by billed_level level_line
   held_billed u =
-      solve-cents 2 (λ c i q d1 d2 x y. c :+ i :+ q :+ (d1 :- x) :+ (d2 :- y) := c :+ i :+ q :+ d1 :+ d2 :- (# 0 :+ x :+ y)) tt
+      solve_cents 2 (λ c i q d1 d2 x y. c :+ i :+ q :+ (d1 :- x) :+ (d2 :- y) := c :+ i :+ q :+ d1 :+ d2 :- (# 0 :+ x :+ y)) tt
       (part_of u (factors_of l) 0) (part_of u (factors_of l) 1)
       ∙ ap (λ (line : ℤ). held_by l -ℤ line) (parts_make_line u (factors_of l))
 
   pub held_adjusted : (amount : ℤ) → held_by (adjusted_level amount l) ≡ held_by l +ℤ amount
   unfolding held_by adjusted_level
-  held_adjusted = solve-cents 1 (λ c i q d1 d2 x. c :+ x :+ i :+ q :+ d1 :+ d2 := c :+ i :+ q :+ d1 :+ d2 :+ x) tt
+  held_adjusted = solve_cents 1 (λ c i q d1 d2 x. c :+ x :+ i :+ q :+ d1 :+ d2 := c :+ i :+ q :+ d1 :+ d2 :+ x) tt
 
   -- what is owed takes the place of what was pending, so nothing may be
   pub held_settled : (share estimate : ℤ) → l.pending.due.0 ≡ pos 0 → held_by (settled_level share estimate l) ≡ held_by l +ℤ share
   unfolding held_by settled_level owed_by
   held_settled share estimate =
       eq_by _ _ (neg_ℤ (pos 1)) _ _
-      (solve-cents 1 (λ c i q d1 d2 x. # 0 :+ # 0 :+ (x :+ c :+ i) :+ d1 :+ d2 :- (c :+ i :+ q :+ d1 :+ d2 :+ x) := neg (# 1) :* (q :- # 0)) tt share)
+      (solve_cents 1 (λ c i q d1 d2 x. # 0 :+ # 0 :+ (x :+ c :+ i) :+ d1 :+ d2 :- (c :+ i :+ q :+ d1 :+ d2 :+ x) := neg (# 1) :* (q :- # 0)) tt share)
 
   pub held_accrued : (rate : ℤ) → held_by (accrued_level rate l) ≡ held_by l +ℤ interest_on rate (bearing_of l)
   unfolding held_by accrued_level
-  held_accrued rate = solve-cents 1 (λ c i q d1 d2 x. c :+ (i :+ x) :+ q :+ d1 :+ d2 := c :+ i :+ q :+ d1 :+ d2 :+ x) tt (interest_on rate (bearing_of l))
+  held_accrued rate = solve_cents 1 (λ c i q d1 d2 x. c :+ (i :+ x) :+ q :+ d1 :+ d2 := c :+ i :+ q :+ d1 :+ d2 :+ x) tt (interest_on rate (bearing_of l))
 
   -- all but accrued interest bears interest
   pub bearing_held : bearing_of l ≡ held_by l -ℤ l.interest.0
   unfolding held_by bearing_of
-  bearing_held = solve-cents 0 (λ c i q d1 d2. c :+ q :+ d1 :+ d2 := c :+ i :+ q :+ d1 :+ d2 :- i) tt
+  bearing_held = solve_cents 0 (λ c i q d1 d2. c :+ q :+ d1 :+ d2 := c :+ i :+ q :+ d1 :+ d2 :- i) tt
 
   -- and nothing is pending where a run enters
   pub record HandedOver (n : ℕ) : Type 0 where
@@ -63,13 +63,13 @@ module _ (l : Level) where
       go : (first second : Bool) → eqb n 1 ≡ first → eqb n 2 ≡ second → HandedOver n
       go true second e f =
           record {
-            held = simp e (solve-cents 0 (λ c i q d1 d2. c :+ d1 :+ i :+ # 0 :+ q :+ d2 := c :+ i :+ q :+ d1 :+ d2) tt);
+            held = simp e (solve_cents 0 (λ c i q d1 d2. c :+ d1 :+ i :+ # 0 :+ q :+ d2 := c :+ i :+ q :+ d1 :+ d2) tt);
             interest = simp e;
             pending = simp e;
           }
       go false true e f =
           record {
-            held = simp (e, f) (solve-cents 0 (λ c i q d1 d2. c :+ d2 :+ i :+ # 0 :+ d1 :+ q := c :+ i :+ q :+ d1 :+ d2) tt);
+            held = simp (e, f) (solve_cents 0 (λ c i q d1 d2. c :+ d2 :+ i :+ # 0 :+ d1 :+ q := c :+ i :+ q :+ d1 :+ d2) tt);
             interest = simp (e, f);
             pending = simp (e, f);
           }

@@ -19,4 +19,4 @@ settled_shared rates t k =
     subst (λ (shares : ℤ). sharing.Shared 50000 rates.percentage shares (remainder_after rates t.period) (t.variances +ℤ variance_of rates t.period))
     (solve 4 (λ s t share first. s :+ t :+ share := s :+ first :+ (t :+ (share :- first))) tt
     t.secondary.shares t.primary.shares (share_of rates t.period) (secondary_share rates t.period))
-    (sharing.more-shared 50000 rates.percentage k (variance_of rates t.period) (omega arith))
+    (sharing.more_shared 50000 rates.percentage k (variance_of rates t.period) (omega arith))

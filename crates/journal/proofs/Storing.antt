@@ -16,10 +16,10 @@ use Rattle.amounts.proofs.Texts as texts
 
 -- a text that was put into the part from `start` on, which is from `used` on where that is within the buffer
 module _ (l text part : List ℕ) (used start n : ℕ) where
-  pub part-puts :
+  pub part_puts :
       (used ≤ length l → start ≡ used) → n ≡ length text → part ≡ text_left text (take (length l - start) (drop start l)) →
       Puts text used l (used + n) (take start l ++ (part ++ drop (length l - start) (drop start l)))
-  part-puts at counted left = record { counted = ap (λ (k : ℕ). used + k) counted; stored = stored }
+  part_puts at counted left = record { counted = ap (λ (k : ℕ). used + k) counted; stored = stored }
     where
       stored : used + length text ≤ length l → take start l ++ (part ++ drop (length l - start) (drop start l)) ≡ sets l used text
       stored h =

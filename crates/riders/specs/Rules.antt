@@ -49,12 +49,12 @@ module _ {Held : Type 0} (rules : Rules Held) where
   -- ---- a law for proofs
 
   -- what is so of the next book and its answer, where no row holds, and of the book as it was with any refusal, is so of what a posting gives
-  pub by-rules :
+  pub by_rules :
       (P : Held → Answer → Type 0) (b : Held) (p : Posting) → T (numbered (rules.rows b p)) →
       (NoneHolds (rules.rows b p) → P (rules.next b p) (rules.answer b p)) → ((n : ℕ) → eqb n 0 ≡ false → P b (Refused n)) →
       P (left_by b p) (answered_by b p)
   unfolding left_by answered_by by_table
-  by-rules P b p positive accepts refuses = go (eqb (refusal_by (rules.rows b p)) 0) refl
+  by_rules P b p positive accepts refuses = go (eqb (refusal_by (rules.rows b p)) 0) refl
     where
       go : (t : Bool) → eqb (refusal_by (rules.rows b p)) 0 ≡ t → P (cond t (rules.next b p) b) (cond t (rules.answer b p) (Refused (refusal_by (rules.rows b p))))
       go true e = accepts (none_holds (rules.rows b p) positive (eqb-true (refusal_by (rules.rows b p)) 0 e))

@@ -20,12 +20,12 @@ module _ (half : ℕ) (percentage : ℤ) where
 
   module _ {shares remainder variances : ℤ} (k : Shared shares remainder variances) where
     -- a period's variance joins the variances, and its share the shares
-    pub more-shared :
+    pub more_shared :
         (variance : ℤ) → 0 < half →
         let shareable = percentage *ℤ variance +ℤ remainder in
         let share = round shareable (pos (2 * half)) in
         Shared (shares +ℤ share) (shareable -ℤ pos (2 * half) *ℤ share) (variances +ℤ variance)
-    more-shared variance h =
+    more_shared variance h =
         record {
           whole =
               eq_by _ _ (pos 1) _ _

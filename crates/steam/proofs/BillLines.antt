@@ -47,11 +47,11 @@ module _ (fs : List Points) (last : Points) where
   five count = ap (λ (gs : List Points). gs ++ (last ∷ [])) (sym (as_four (points (pos 0)) fs count))
 
   -- the code's sums, each one factor more than the one before
-  pub totals-are :
+  pub totals_are :
       {one two three four all : Factors} → length fs ≡ 4 → one ≡ as_factors (pos 0 +ℤ (factor_at 0).0) → two ≡ as_factors (one.0 +ℤ (factor_at 1).0) →
       three ≡ as_factors (two.0 +ℤ (factor_at 2).0) → four ≡ as_factors (three.0 +ℤ (factor_at 3).0) → all ≡ as_factors (four.0 +ℤ last.0) →
       ◌≡◌ {A = Totals} (record { first = one; second = two; third = three; fourth = four; all = all }) (totals_of (fs ++ (last ∷ [])))
-  totals-are count e₁ e₂ e₃ e₄ e₅ =
+  totals_are count e₁ e₂ e₃ e₄ e₅ =
       let f = (factor_at 0).0 in
       let g = (factor_at 1).0 in
       let h = (factor_at 2).0 in
@@ -94,14 +94,14 @@ module _ (u : ℤ) (b : SteamBook) where
 
     -- ---- what each run loses
 
-    pub dues-fall :
+    pub dues_fall :
         length b.dues ≡ 4 →
         cents (due_at b 0 -ℤ (line_up_to 1 -ℤ pos 0)) ∷ cents (due_at b 1 -ℤ (line_up_to 2 -ℤ line_up_to 1)) ∷ cents (due_at b 2 -ℤ (line_up_to 3 -ℤ line_up_to 2))
         ∷ cents (due_at b 3 -ℤ (line_up_to 4 -ℤ line_up_to 3))
         ∷ []
         ≡ dues_less (part_of u (factors_of b)) b.dues
     unfolding part_of
-    dues-fall four =
+    dues_fall four =
         ap
         (λ (none : ℤ).
         cents (due_at b 0 -ℤ (line_up_to 1 -ℤ none)) ∷ cents (due_at b 1 -ℤ (line_up_to 2 -ℤ line_up_to 1)) ∷ cents (due_at b 2 -ℤ (line_up_to 3 -ℤ line_up_to 2))

@@ -59,17 +59,17 @@ module _ (b : SteamBook) where
   unfolding reconciled
   none_runs e = ap (λ (n : ℕ). month_lost n b) (sym e)
 
-  pub last-month :
+  pub last_month :
       {carried : ℤ} {none : Reconciliation} → b.reconciliation.months ≡ 1 → carried ≡ b.carried.0 +ℤ b.reconciliation.run.due.0 → none ≡ no_reconciliation →
       with_account b (cents carried) none ≡ reconciled b
   unfolding reconciled
-  last-month m e n = (λ i. with_account b (cents (e i)) (n i)) ∙ ap (λ (k : ℕ). month_lost k b) (sym m)
+  last_month m e n = (λ i. with_account b (cents (e i)) (n i)) ∙ ap (λ (k : ℕ). month_lost k b) (sym m)
 
-  pub month-lost :
+  pub month_lost_lem :
       (b.reconciliation.months ≡ 0 → ⊥) → (b.reconciliation.months ≡ 1 → ⊥) →
       with_account b b.carried (reconciliation_of b.reconciliation.run (b.reconciliation.months - 1)) ≡ reconciled b
   unfolding reconciled
-  month-lost f g = go b.reconciliation.months f g
+  month_lost_lem f g = go b.reconciliation.months f g
     where
       go : (n : ℕ) → (n ≡ 0 → ⊥) → (n ≡ 1 → ⊥) → with_account b b.carried (reconciliation_of b.reconciliation.run (n - 1)) ≡ month_lost n b
       go zero f g = absurd (f (omega arith))

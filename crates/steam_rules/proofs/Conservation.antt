@@ -14,7 +14,7 @@ use Rattle.postings.specs.declared.Answer.{Answer}
 use Rattle.postings.specs.declared.Answer.TheVariants.{Done}
 use Rattle.riders.specs.Runs.{no_run}
 use Rattle.riders.specs.Months.{forbidden}
-use Rattle.riders.specs.Rules.{left_by, answered_by, by-rules}
+use Rattle.riders.specs.Rules.{left_by, answered_by, by_rules}
 use Rattle.riders.specs.Histories.{was_accepted, line_answered, entry_of, kept_after}
 use Rattle.riders.specs.Balances.{line_billed, amount_added, cents_moved}
 use Rattle.riders.specs.Waiting.{none_pending}
@@ -80,12 +80,12 @@ module _ (b : SteamBook) (t : Tally) (p : Posting) (k : Kept b t) where
   Keeps kind = Kept (next_at kind b p) (cond (was_accepted (answer_at kind b p)) (count_at kind t p (line_answered kind (answer_at kind b p))) t)
 
   -- cost and sales change the period alone, and not its remainder
-  period-keeps :
+  period_keeps :
       (cost_after sales_after : Period → ℤ) →
       Kept (with_period b (period_of (cost_after b.period) (sales_after b.period) b.period.remainder.0))
       (with_period_tally t (period_of (cost_after t.period) (sales_after t.period) t.period.remainder.0))
   unfolding held_by
-  period-keeps cost_after sales_after =
+  period_keeps cost_after sales_after =
       record {
         period = ap (λ (q : Period). period_of (cost_after q) (sales_after q) q.remainder.0) k.period;
         balances = k.balances;
@@ -95,11 +95,11 @@ module _ (b : SteamBook) (t : Tally) (p : Posting) (k : Kept b t) where
 
   cost_keeps : Keeps cost
   unfolding next_at answer_at count_at cost_posted cost_counted
-  cost_keeps = period-keeps (λ q. q.cost.0 +ℤ p.first) (λ q. q.sales.0)
+  cost_keeps = period_keeps (λ q. q.cost.0 +ℤ p.first) (λ q. q.sales.0)
 
   sales_keeps : Keeps sales
   unfolding next_at answer_at count_at sales_posted sales_counted
-  sales_keeps = period-keeps (λ q. q.cost.0) (λ q. q.sales.0 +ℤ p.first)
+  sales_keeps = period_keeps (λ q. q.cost.0) (λ q. q.sales.0 +ℤ p.first)
 
   bill_keeps : not (in_limits b) ≡ false → Keeps bill
   unfolding next_at answer_at count_at bill_posted line_counted
@@ -182,7 +182,7 @@ module _ (b : SteamBook) (t : Tally) (p : Posting) (k : Kept b t) where
 posting_keeps : (b : SteamBook) (t : Tally) (p : Posting) → Kept b t → Kept (left_by rules b p) (count_of t (entry_of p (answered_by rules b p)))
 unfolding count_of unknown_kind
 posting_keeps b t p k =
-    by-rules rules (λ (next : SteamBook) (answer : Answer). Kept next (count_of t (entry_of p answer))) b p tt
+    by_rules rules (λ (next : SteamBook) (answer : Answer). Kept next (count_of t (entry_of p answer))) b p tt
     (λ none. kind_keeps b t p k (kind_of p.kind) none.0 none.1.1.0 none.1.1.1.1.0 none.1.1.1.1.1.0)
     (λ n refused. simp refused k)
 

@@ -46,10 +46,10 @@ four_and n = suc (suc (suc (suc n)))
 
 module _ (b : SteamBook) where
   -- `solve` over the book's cents A, Q, the four d together, the reconciliation's d, and n unknowns more
-  solve-cents :
+  solve_cents :
       (n : ℕ) (f : Over (four_and n)) → T (sides_agree (numbered (four_and n) 0 f)) →
       ForAll n (λ (more : List ℤ). Holds (numbered (four_and n) 0 f) (b.carried.0 ∷ b.pending.due.0 ∷ sum_cents b.dues ∷ b.reconciliation.run.due.0 ∷ more))
-  solve-cents n f t = solve (four_and n) f t b.carried.0 b.pending.due.0 (sum_cents b.dues) b.reconciliation.run.due.0
+  solve_cents n f t = solve (four_and n) f t b.carried.0 b.pending.due.0 (sum_cents b.dues) b.reconciliation.run.due.0
 
   -- four runs and the reconciliation lose the line
   pub held_billed : (p : Posting) → length b.factors ≡ 4 → length b.dues ≡ 4 → held_by (bill_posted b p) ≡ held_by b -ℤ bill_line p.first b
@@ -60,7 +60,7 @@ module _ (b : SteamBook) where
       let line : sum_of (length b.dues) part +ℤ part 4 ≡ bill_line p.first b =
       ap (λ (n : ℕ). sum_of n part +ℤ part 4) d ∙ ap (λ (n : ℕ). sum_of n part) (sym five) ∙ parts_make_line p.first (factors_of b) in
       ap (λ (z : ℤ). b.carried.0 +ℤ b.pending.due.0 +ℤ z +ℤ (b.reconciliation.run.due.0 -ℤ part 4)) (less_sum part b.dues)
-      ∙ solve-cents 2 (λ a q ds r ps p. a :+ q :+ (ds :- ps) :+ (r :- p) := a :+ q :+ ds :+ r :- (ps :+ p)) tt
+      ∙ solve_cents 2 (λ a q ds r ps p. a :+ q :+ (ds :- ps) :+ (r :- p) := a :+ q :+ ds :+ r :- (ps :+ p)) tt
       (sum_of (length b.dues) part) (part 4)
       ∙ ap (λ (z : ℤ). held_by b -ℤ z) line
 
@@ -69,14 +69,14 @@ module _ (b : SteamBook) where
   unfolding held_by settle_posted
   held_settled p =
       eq_by _ _ (neg_ℤ (pos 1)) _ _
-      (solve-cents 1 (λ a q ds r x. a :+ x :+ ds :+ r :- (a :+ q :+ ds :+ r :+ x) := neg (# 1) :* (q :- # 0)) tt (share_of b.period))
+      (solve_cents 1 (λ a q ds r x. a :+ x :+ ds :+ r :- (a :+ q :+ ds :+ r :+ x) := neg (# 1) :* (q :- # 0)) tt (share_of b.period))
 
   pub held_entered : (n : ℕ) → length b.dues ≡ 4 → n ≤ 4 → held_by (entered n b) ≡ held_by b
   unfolding held_by entered
   held_entered zero d to = refl
   held_entered (suc i) d to =
       eq_by _ _ (pos 1) _ _
-      (solve-cents 2 (λ a q ds r old new. a :+ old :+ # 0 :+ new :+ r :- (a :+ q :+ ds :+ r) := # 1 :* (new :+ old :- (ds :+ q))) tt
+      (solve_cents 2 (λ a q ds r old new. a :+ old :+ # 0 :+ new :+ r :- (a :+ q :+ ds :+ r) := # 1 :* (new :+ old :- (ds :+ q))) tt
       (get_or b.dues i (cents (pos 0))).0 (sum_cents (set b.dues i b.pending.due)))
       (set_sum b.dues i b.pending.due (omega arith))
 
@@ -84,7 +84,7 @@ module _ (b : SteamBook) where
   held_month_lost : (months : ℕ) → held_by (month_lost months b) ≡ held_by b
   unfolding held_by
   held_month_lost zero = refl
-  held_month_lost (suc zero) = solve-cents 0 (λ a q ds r. a :+ r :+ q :+ ds :+ # 0 := a :+ q :+ ds :+ r) tt
+  held_month_lost (suc zero) = solve_cents 0 (λ a q ds r. a :+ r :+ q :+ ds :+ # 0 := a :+ q :+ ds :+ r) tt
   held_month_lost (suc (suc left)) = refl
 
   pub held_reconciled : held_by (reconciled b) ≡ held_by b
@@ -93,11 +93,11 @@ module _ (b : SteamBook) where
 
   pub held_adjusted : (p : Posting) → held_by (adjust_posted b p) ≡ held_by b +ℤ p.first
   unfolding held_by adjust_posted
-  held_adjusted p = solve-cents 1 (λ a q ds r x. a :+ x :+ q :+ ds :+ r := a :+ q :+ ds :+ r :+ x) tt p.first
+  held_adjusted p = solve_cents 1 (λ a q ds r x. a :+ x :+ q :+ ds :+ r := a :+ q :+ ds :+ r :+ x) tt p.first
 
   -- the carried account takes the place of the reconciliation's cents, so there may be none
   pub held_reconciling : (p : Posting) → b.reconciliation.run.due.0 ≡ pos 0 → held_by (reconcile_posted b p) ≡ held_by b
   unfolding held_by reconcile_posted
   held_reconciling p =
       eq_by _ _ (neg_ℤ (pos 1)) _ _
-      (solve-cents 0 (λ a q ds r. # 0 :+ q :+ ds :+ a :- (a :+ q :+ ds :+ r) := neg (# 1) :* (r :- # 0)) tt)
+      (solve_cents 0 (λ a q ds r. # 0 :+ q :+ ds :+ a :- (a :+ q :+ ds :+ r) := neg (# 1) :* (r :- # 0)) tt)

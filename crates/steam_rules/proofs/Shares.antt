@@ -11,4 +11,4 @@ Shared t = sharing.Shared 5000 (pos 80) t.shares t.period.remainder.0 t.variance
 
 pub settled_shared : (t : Tally) → Shared t → Shared (settle_counted t)
 unfolding settle_counted remainder_after share_of shareable_of
-settled_shared t k = sharing.more-shared 5000 (pos 80) k (variance_of t.period) (omega arith)
+settled_shared t k = sharing.more_shared 5000 (pos 80) k (variance_of t.period) (omega arith)

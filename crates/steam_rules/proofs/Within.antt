@@ -10,7 +10,7 @@ use Rattle.amounts.specs.Amounts.{cents_in_limits, points_in_limits}
 use Rattle.postings.specs.declared.Posting.{Posting}
 use Rattle.postings.specs.declared.Answer.{Answer}
 use Rattle.postings.specs.declared.Answer.TheVariants.{Done}
-use Rattle.riders.specs.Rules.{left_by, by-rules}
+use Rattle.riders.specs.Rules.{left_by, by_rules}
 use Rattle.riders.specs.Histories.{Entry, kept_after}
 use Rattle.riders.specs.Months.{month_in_limits}
 use Rattle.riders.specs.Runs.{run_in_limits}
@@ -26,7 +26,7 @@ use Rattle.steam_rules.specs.Claim.{NeverOutOfLimits}
 
 left_within : (b : SteamBook) (p : Posting) → in_limits b ≡ true → in_limits (left_by rules b p) ≡ true
 left_within b p h =
-    by-rules rules (λ (next : SteamBook) (answer : Answer). in_limits next ≡ true) b p tt
+    by_rules rules (λ (next : SteamBook) (answer : Answer). in_limits next ≡ true) b p tt
     (λ none. not-false _ none.1.1.1.1.1.1.1.1.0) (λ n refused. h)
 
 fresh_within : (quarters : List Mmbtu) → quarters_in_limits quarters ≡ true → in_limits (fresh_of quarters) ≡ true

@@ -24,11 +24,11 @@ pub returns-then-not-in_limits : goal.returns-then-not-in_limits
 returns-then-not-in_limits c =
     let b = c in
     let s = b.args in
-    c.refuse-then-not-in_limits.ensures ∙ posts.refused_12 posted rules s.book s.posting in_limits refl tt b.refusal_before-number.ensures b.if-number-ne0.left (sym c.effect-posted.ensures.alike ∙ sym c.in_limits.ensures ∙ c.if-not-in_limits.true)
+    c.refuse-then-not-in_limits.ensures ∙ posts.refused_12 posted rules s.book s.posting in_limits refl tt b.refusal_before-number.ensures b.if-number-ne0.false (sym c.effect-posted.ensures.alike ∙ sym c.in_limits.ensures ∙ c.if-not-in_limits.true)
 
 pub returns : goal.returns
 returns c =
     let b = c in
     let s = b.args in
     let within = sym c.in_limits.ensures ∙ c.if-not-in_limits.false in
-    c.effect-posted.ensures.same within ∙ posts.stored posted rules s.book s.posting in_limits refl tt b.refusal_before-number.ensures b.if-number-ne0.left (sym c.effect-posted.ensures.alike ∙ within)
+    c.effect-posted.ensures.same within ∙ posts.stored posted rules s.book s.posting in_limits refl tt b.refusal_before-number.ensures b.if-number-ne0.false (sym c.effect-posted.ensures.alike ∙ within)

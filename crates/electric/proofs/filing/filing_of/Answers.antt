@@ -10,11 +10,11 @@ use Rattle.riders.specs.Runs.{filed_run}
 use Rattle.electric_rules.specs.Levels.{owed_by}
 use Rattle.electric.proofs.filing.filing_of.Goals as goal
 
-same-filed : {a b x y : ℤ} → a ≡ b → x ≡ y → filed_run a x ≡ filed_run b y
-same-filed e f = λ i. filed_run (e i) (f i)
+same_filed : {a b x y : ℤ} → a ≡ b → x ≡ y → filed_run a x ≡ filed_run b y
+same_filed e f = λ i. filed_run (e i) (f i)
 
 pub returns : goal.returns
 unfolding owed_by
 returns c =
     let f : SFits w64 c.args.estimate.0 = search rules in
-    c.filed.ensures ∙ same-filed (exact (search exacts depth 30) tt) (to_z-of_z f)
+    c.filed.ensures ∙ same_filed (exact (search exacts depth 30) tt) (to_z-of_z f)

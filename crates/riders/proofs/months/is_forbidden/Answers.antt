@@ -8,9 +8,9 @@ use Rattle.riders.specs.Months.{forbidden}
 use Rattle.riders.proofs.months.is_forbidden.Goals as goal
 
 -- no month forbids any other kind
-never-forbidden : (settles settled : Bool) (n : ℕ) → (n ≡ 1 → ⊥) → (n ≡ 2 → ⊥) → (n ≡ 4 → ⊥) → (n ≡ 5 → ⊥) → false ≡ forbidden (kind_of n) settles settled
+never_forbidden : (settles settled : Bool) (n : ℕ) → (n ≡ 1 → ⊥) → (n ≡ 2 → ⊥) → (n ≡ 4 → ⊥) → (n ≡ 5 → ⊥) → false ≡ forbidden (kind_of n) settles settled
 unfolding forbidden
-never-forbidden settles settled =
+never_forbidden settles settled =
     by_kind (λ n kind. (n ≡ 1 → ⊥) → (n ≡ 2 → ⊥) → (n ≡ 4 → ⊥) → (n ≡ 5 → ⊥) → false ≡ forbidden kind settles settled)
     (λ c s t m. absurd (c refl)) (λ c s t m. absurd (s refl)) (λ c s t m. refl) (λ c s t m. absurd (t refl)) (λ c s t m. absurd (m refl)) (λ c s t m. refl) (λ c s t m. refl)
     (λ n c s t m. refl)
@@ -42,4 +42,4 @@ returns-in-5 c =
 pub returns-in_default : goal.returns-in_default
 returns-in_default c =
     let s = c.args in
-    never-forbidden s.settles s.settled s.posting.kind (λ e. omega arith) (λ e. omega arith) (λ e. omega arith) (λ e. omega arith)
+    never_forbidden s.settles s.settled s.posting.kind (λ e. omega arith) (λ e. omega arith) (λ e. omega arith) (λ e. omega arith)

@@ -6,7 +6,7 @@ use Rattle.ints.specs.Range.{Within, between_same}
 use Rattle.ints.specs.Bound.{b_add, b_between, within_by}
 use Rattle.amounts.specs.Amounts.{points}
 use Rattle.steam_rules.specs.Fours.{at}
-use Rattle.steam.proofs.BillLines.{totals-are}
+use Rattle.steam.proofs.BillLines.{totals_are}
 use Rattle.steam.proofs.bills.totals_of.Goals as goal
 
 pub with_run-requires : goal.with_run-requires
@@ -21,4 +21,4 @@ with_run-requires c =
 pub returns : goal.returns
 returns c =
     let s = c in
-    totals-are s.args.t1 s.args.last s.requires.0.count c.with_run-first.ensures c.with_run-second.ensures c.with_run-third.ensures c.with_run-fourth.ensures c.with_run.ensures
+    totals_are s.args.factors s.args.last s.requires.0.count c.with_run-first.ensures c.with_run-second.ensures c.with_run-third.ensures c.with_run-fourth.ensures c.with_run.ensures

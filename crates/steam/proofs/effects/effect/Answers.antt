@@ -1,4 +1,5 @@
 -- `effects::effect` is the effect of the posting's kind, each arm that of its own. Assumes nothing.
+use native.Mathlib.Omega.{arith}
 use mathlib.Core.Path.{◌≡◌}
 use Rattle.postings.specs.Kinds.{kind_of}
 use Rattle.postings.specs.Ranged.{ranged_as}

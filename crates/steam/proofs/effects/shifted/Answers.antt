@@ -8,5 +8,5 @@ use Rattle.steam.proofs.effects.shifted.Goals as goal
 pub returns : goal.returns
 returns c =
     let s = c.args in
-    let l : length s.t1 ≡ 4 = search rules in
-    shifted_four s.t1 l s.newest
+    let l : length s.quarters ≡ 4 = search rules in
+    shifted_four s.quarters l s.newest

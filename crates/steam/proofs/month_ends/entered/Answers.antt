@@ -14,14 +14,14 @@ use Rattle.steam.proofs.month_ends.entered.Goals as goal
 
 pub returns-then-run-eq0 : goal.returns-then-run-eq0
 returns-then-run-eq0 c =
-    none_enters c.args.run c.args.t2 c.if-run-eq0.true
+    none_enters c.args.run c.args.book c.if-run-eq0.true
 
 pub overflow_add-carried : goal.overflow_add-carried
 overflow_add-carried c =
     let s = c.args in
     let w = c.requires in
     let carried = w.1.carried in
-    let due : Within 1000000000000 (due_at s.t2 (s.run - 1)) = at (cents (pos 0)) w.1.runs.dues (s.run - 1) (let m = w.0 in let z = c.if-run-eq0.false in omega arith) in
+    let due : Within 1000000000000 (due_at s.book (s.run - 1)) = at (cents (pos 0)) w.1.runs.dues (s.run - 1) (let m = w.0 in let z = c.if-run-eq0.false in omega arith) in
     fits64 (search (bounds, carried, due) depth 30) tt
 
 pub returns : goal.returns
@@ -30,6 +30,6 @@ returns c =
     let w = c.requires in
     let z = c.if-run-eq0.false in
     let carried = w.1.carried in
-    let due : Within 1000000000000 (due_at s.t2 (s.run - 1)) = at (cents (pos 0)) w.1.runs.dues (s.run - 1) (let m = w.0 in omega arith) in
+    let due : Within 1000000000000 (due_at s.book (s.run - 1)) = at (cents (pos 0)) w.1.runs.dues (s.run - 1) (let m = w.0 in omega arith) in
     let next : s.run ≡ suc (s.run - 1) = omega arith in
-    run_enters s.run (s.run - 1) s.t2 next (exact (search (exacts, carried, due) depth 30) tt) c.none-next.ensures
+    run_enters s.run (s.run - 1) s.book next (exact (search (exacts, carried, due) depth 30) tt) c.none-next.ensures
