@@ -17,7 +17,8 @@ fn put_bytes(word: &[u8], part: &mut [u8]) -> usize
     ensures { (result ≡ length word.now) × (part.new ≡ text_left word.now part.old) }
 {
     if word.len() <= part.len() {
-        bytes::copy(word, part);
+        let front = &mut part[..word.len()];
+        front.copy_from_slice(word);
     }
     word.len()
 }
