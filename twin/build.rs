@@ -1,31 +1,49 @@
-//! Builds the proved static library, which is linked to the twin, and the proved journal program.
+//! Builds the proved static library, which is linked to the twin, and the proved journal program, on which tests run.
 
 use std::env;
-use std::fs::File;
+use std::fs::{self, File};
 use std::path::{Path, PathBuf};
-use std::process::{Command, Output};
+use std::process::{Command, Output, Stdio};
 use std::time::SystemTime;
 
-const LIBRARY: &str = "rt staticlib host";
-const PROGRAM: &str = "rt check neapscroll";
+/// What a command of the toolchain builds from a crate, in whose folder it runs.
+struct Build {
+    command: &'static str,
+    folder: &'static str,
+    /// By its path in that folder.
+    built: &'static str,
+}
+
+const LIBRARY: Build = Build {
+    command: "rt lib",
+    folder: "crates/host",
+    built: "out/libhost.a",
+};
+
+/// A program is built by running it: here on no input, and what it prints goes nowhere.
+const PROGRAM: Build = Build {
+    command: "rt run",
+    folder: "crates/neapscroll",
+    built: "out/neapscroll",
+};
 
 fn main() {
     let top = repository_top();
-    let library_folder = top.join("target").join("staticlib");
-    let archive = library_folder.join("libhost.a");
+    let library = LIBRARY.run(&top);
+    let program = PROGRAM.run(&top);
+    let library_folder = library.parent().expect("the archive stands in a folder");
 
-    run(LIBRARY, &top);
-    date_before_any_run(&archive);
-    run(PROGRAM, &top);
-
-    for input in [top.join("crates"), top.join("crates.txt"), archive] {
-        println!("cargo::rerun-if-changed={}", input.display());
-    }
+    // The tests ask for these paths.
+    println!("cargo::rustc-env=PROVED_LIBRARY={}", library.display());
+    println!("cargo::rustc-env=PROVED_PROGRAM={}", program.display());
     println!(
         "cargo::rustc-link-search=native={}",
         library_folder.display()
     );
     println!("cargo::rustc-link-lib=static=host");
+    for input in inputs(&top).iter().chain([&library, &program]) {
+        println!("cargo::rerun-if-changed={}", input.display());
+    }
 }
 
 /// The folder that holds the twin's folder.
@@ -35,33 +53,65 @@ fn repository_top() -> PathBuf {
     top.expect("the twin stands in a repository").to_path_buf()
 }
 
-fn run(command: &str, top: &Path) {
-    let mut words = command.split(' ');
-    let program = words.next().expect("a command has a first word");
-    match Command::new(program).args(words).current_dir(top).output() {
-        Ok(output) if output.status.success() => {}
-        Ok(output) => panic!("{}", failure(command, top, &output)),
-        Err(error) => panic!(
-            "`{command}` could not be started in {}: {error} (is `{program}` on PATH?)",
-            top.display()
-        ),
+/// The list of crates, and each crate's folders but for what the toolchain itself makes there.
+fn inputs(top: &Path) -> Vec<PathBuf> {
+    let mut inputs = vec![top.join("crates.txt")];
+    for folder in entries(&top.join("crates")) {
+        let parts = entries(&folder).into_iter();
+        inputs.extend(parts.filter(|part| !part.ends_with("out")));
     }
+    inputs
 }
 
-fn failure(command: &str, top: &Path, output: &Output) -> String {
-    format!(
-        "`{command}` failed in {} with {}\n{}{}",
-        top.display(),
-        output.status,
-        String::from_utf8_lossy(&output.stdout),
-        String::from_utf8_lossy(&output.stderr)
-    )
+fn entries(folder: &Path) -> Vec<PathBuf> {
+    let entries = fs::read_dir(folder);
+    let entries = entries.unwrap_or_else(|error| panic!("{}: {error}", folder.display()));
+    let paths = entries.map(|entry| entry.expect("an entry of a folder").path());
+    paths.collect()
 }
 
-/// An archive newer than the last run of this script would make cargo run it again at every build.
-fn date_before_any_run(archive: &Path) {
-    let dated = File::open(archive).and_then(|file| file.set_modified(SystemTime::UNIX_EPOCH));
-    if let Err(error) = dated {
-        panic!("`{LIBRARY}` left no usable {}: {error}", archive.display());
+impl Build {
+    /// Gives the path of what was built.
+    fn run(&self, top: &Path) -> PathBuf {
+        let folder = top.join(self.folder);
+        let mut words = self.command.split(' ');
+        let program = words.next().expect("a command has a first word");
+        let mut command = Command::new(program);
+        command.args(words).current_dir(&folder);
+        match command.stdin(Stdio::null()).output() {
+            Ok(output) if output.status.success() => {}
+            Ok(output) => panic!("{}", self.failure(&output)),
+            Err(error) => panic!(
+                "`{}` could not be started in {}: {error} (is `{program}` on PATH?)",
+                self.command,
+                folder.display()
+            ),
+        }
+        let built = folder.join(self.built);
+        self.date_before_any_run(&built);
+        built
+    }
+
+    fn failure(&self, output: &Output) -> String {
+        format!(
+            "`{}` failed in {} with {}\n{}{}",
+            self.command,
+            self.folder,
+            output.status,
+            String::from_utf8_lossy(&output.stdout),
+            String::from_utf8_lossy(&output.stderr)
+        )
+    }
+
+    /// A file newer than the last run of this script would make cargo run it again at every build.
+    fn date_before_any_run(&self, built: &Path) {
+        let dated = File::open(built).and_then(|file| file.set_modified(SystemTime::UNIX_EPOCH));
+        if let Err(error) = dated {
+            panic!(
+                "`{}` left no usable {}: {error}",
+                self.command,
+                built.display()
+            );
+        }
     }
 }

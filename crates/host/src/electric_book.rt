@@ -11,7 +11,7 @@ use postings::{Answer, Posting};
 
 // Cents of either level.
 #[repr(C)]
-#[derive(Drop)]
+#[derive(Clone, Copy)]
 pub struct LevelCents {
     pub secondary: Cents,
     pub primary: Cents,
@@ -19,7 +19,7 @@ pub struct LevelCents {
 
 // Points of either level.
 #[repr(C)]
-#[derive(Drop)]
+#[derive(Clone, Copy)]
 pub struct LevelPoints {
     pub secondary: Points,
     pub primary: Points,
@@ -27,7 +27,7 @@ pub struct LevelPoints {
 
 // The refusal's number, or 0 and what the posting is answered with, 0 where a field does not apply; and the book after it.
 #[repr(C)]
-#[derive(Drop)]
+#[derive(Clone, Copy)]
 pub struct ElectricReply {
     pub number: u8,
     pub filed: LevelPoints,

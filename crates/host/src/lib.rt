@@ -1,6 +1,7 @@
 // What a billing host links: the ledger's calls by the C calling convention. Each is total, and its contract is that of the
 // proved call below it.
 #![tactic(auto)]
+
 ghost use Rattle.std.specs.Prelude.{◌≡◌};
 ghost use Rattle.rounding.specs.Round.{round};
 ghost use Rattle.rounding.specs.Weight.{weight_or0};

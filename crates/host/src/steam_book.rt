@@ -13,7 +13,7 @@ use steam_rules::{Mmbtu, Posted, SteamBook};
 // The refusal's number, or 0 and what the posting is answered with, 0 where a field does not apply; and the book after it. No bytes lie
 // unused right before the book, since it would then be copied twice.
 #[repr(C)]
-#[derive(Drop)]
+#[derive(Clone, Copy)]
 pub struct SteamReply {
     pub number: u8,
     pub filed: Points,

@@ -30,7 +30,12 @@ fn folder() -> File {
 fn ended(command: &mut Command) -> Output {
     let output = command.output();
     let output = output.unwrap_or_else(|error| panic!("{command:?}: {error}"));
-    assert!(output.status.success(), "{command:?}: {}", output.status);
+    let said = String::from_utf8_lossy(&output.stderr);
+    assert!(
+        output.status.success(),
+        "{command:?}: {}\n{said}",
+        output.status
+    );
     output
 }
 
@@ -148,15 +153,16 @@ fn one_end_of_input_is_enough_at_a_terminal() {
 
 /// Another program of the repository, which the twin's build does not make.
 fn other_program(name: &str) -> Command {
-    static CHECKED: Once = Once::new();
-    CHECKED.call_once(|| {
-        ended(
-            Command::new("rt")
-                .args(["check", "checklist", "journals", "quotients"])
-                .current_dir(repository_top()),
-        );
+    static BUILT: Once = Once::new();
+    let crates = repository_top().join("crates");
+    BUILT.call_once(|| {
+        for name in ["checklist", "journals", "quotients"] {
+            // A program is built by running it.
+            let mut command = Command::new("rt");
+            ended(command.arg("run").current_dir(crates.join(name)));
+        }
     });
-    let mut command = Command::new(repository_top().join("target/bin").join(name));
+    let mut command = Command::new(crates.join(name).join("out").join(name));
     command.stdin(Stdio::null());
     command
 }

@@ -17,7 +17,7 @@ pub fn repository_top() -> &'static Path {
 }
 
 /// The program, which the twin's build makes.
-pub const PROGRAM: &str = concat!(env!("CARGO_MANIFEST_DIR"), "/../target/bin/neapscroll");
+pub const PROGRAM: &str = env!("PROVED_PROGRAM");
 
 /// What the program writes for the input, which it is handed in pieces. Nothing is lost, so it says nothing.
 fn run(input: &[u8], piece: usize) -> Vec<u8> {

@@ -32,6 +32,9 @@ pub const CPP: Language = Language {
     standard: "-std=c++11",
 };
 
+/// The archive, which the twin's build makes.
+const LIBRARY: &str = env!("PROVED_LIBRARY");
+
 const WARNINGS: [&str; 4] = ["-Wall", "-Wextra", "-pedantic", "-Werror"];
 
 /// What the program prints, compiled without a warning as a program of the language.
@@ -43,7 +46,6 @@ pub fn output_of(language: &Language, source: &str) -> String {
 
 fn compiled(language: &Language, source: &str) -> PathBuf {
     let host = repository_top().join("host");
-    let library = repository_top().join("target/staticlib/libhost.a");
     let name = format!("{source}.{}", language.variable);
     let program = Path::new(env!("CARGO_TARGET_TMPDIR")).join(name);
     let mut command = Command::new(compiler(language));
@@ -52,7 +54,7 @@ fn compiled(language: &Language, source: &str) -> PathBuf {
     command
         .args(["-x", language.sources])
         .arg(host.join(source));
-    command.args(["-x", "none"]).arg(library);
+    command.args(["-x", "none"]).arg(LIBRARY);
     command.arg("-o").arg(&program);
     run(command, &format!("the {} compiler", language.name));
     program

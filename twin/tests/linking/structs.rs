@@ -25,19 +25,25 @@ const SOURCES: [(&str, &[&str]); 9] = [
     ("crates/host/src/steam_book.rt", &["SteamReply"]),
 ];
 
-/// The fields between the brackets of the struct with the layout of C.
+/// The fields between the brackets of the struct, which has the layout of C.
 fn fields<'a>(source: &'a str, name: &str) -> &'a str {
-    let start = format!("#[repr(C)]\npub struct {name}");
-    let (_, rest) = source.split_once(&start).expect("the struct");
-    let opening = rest.chars().next().expect("a bracket");
-    let closing = if opening == '(' { ");" } else { "\n}" };
-    match rest
-        .strip_prefix([' ', '('])
-        .and_then(|rest| rest.split_once(closing))
-    {
-        Some((fields, _)) => fields,
-        None => panic!("`{name}` has no end"),
-    }
+    let forms = [
+        (format!("pub struct {name} {{"), "\n}"),
+        (format!("pub struct {name}("), ");"),
+    ];
+    let found = forms.iter().find_map(|(start, end)| {
+        let (above, rest) = source.split_once(start)?;
+        let (fields, _) = rest.split_once(end)?;
+        Some((above, fields))
+    });
+    let (above, fields) = found.unwrap_or_else(|| panic!("no struct `{name}`"));
+    let above = above.lines().rev();
+    let mut attributes = above.take_while(|line| line.starts_with("#["));
+    assert!(
+        attributes.any(|line| line == "#[repr(C)]"),
+        "`{name}` has not the layout of C"
+    );
+    fields
 }
 
 /// A field in C; an array has its length after the name.
