@@ -1,48 +1,53 @@
 // Texts, amounts and answers on standard output, in the ledger's own text. Each answers whether all of it was taken.
 use crate::texts;
 use amounts::{Cents, Points};
-use libc::STDOUT_FILENO;
 use postings::Answer;
+use std::io::Stdout;
 
-pub(crate) fn text(text: &[u8]) -> bool {
-    io::write_all(STDOUT_FILENO, text)
+pub(crate) fn text(output: &Stdout, text: &[u8]) -> bool {
+    output.write_all(text).is_ok()
 }
 
-pub(crate) fn count(count: u64) -> bool {
-    io::print_decimal(STDOUT_FILENO, count)
+pub(crate) fn count(output: &Stdout, count: u64) -> bool {
+    print!(output; "{count}").is_ok()
 }
 
-pub(crate) fn number(number: i64) -> bool {
-    let signed = if number < 0 { text(b"-") } else { true };
-    signed & count(ints::size(number))
+pub(crate) fn number(output: &Stdout, number: i64) -> bool {
+    print!(output; "{number}").is_ok()
 }
 
-pub(crate) fn cents(amount: Cents) -> bool {
+pub(crate) fn cents(output: &Stdout, amount: Cents) -> bool {
     let mut buffer = [0u8; 24];
     let written = amount.write(&mut buffer);
     let length = texts::filled(written, &buffer);
-    text(&buffer[..length])
+    text(output, &buffer[..length])
 }
 
-pub(crate) fn points(factor: Points) -> bool {
+pub(crate) fn points(output: &Stdout, factor: Points) -> bool {
     let mut buffer = [0u8; 24];
     let written = factor.write(&mut buffer);
     let length = texts::filled(written, &buffer);
-    text(&buffer[..length])
+    text(output, &buffer[..length])
 }
 
 // An answer as the journal prints it.
-pub(crate) fn answer(answer: Answer) -> bool {
+pub(crate) fn answer(output: &Stdout, answer: Answer) -> bool {
     match answer {
-        Answer::Line(line) => text(b"line ") & cents(line),
+        Answer::Line(line) => text(output, b"line ") & cents(output, line),
         Answer::FiledLevels(secondary, primary) => {
-            text(b"filed ") & points(secondary) & text(b" ") & points(primary)
+            text(output, b"filed ")
+                & points(output, secondary)
+                & text(output, b" ")
+                & points(output, primary)
         }
-        Answer::Filed(factor) => text(b"filed ") & points(factor),
+        Answer::Filed(factor) => text(output, b"filed ") & points(output, factor),
         Answer::Interest(secondary, primary) => {
-            text(b"interest ") & cents(secondary) & text(b" ") & cents(primary)
+            text(output, b"interest ")
+                & cents(output, secondary)
+                & text(output, b" ")
+                & cents(output, primary)
         }
-        Answer::Done => text(b"done"),
-        Answer::Refused(refusal) => text(b"refused ") & number(refusal as i64),
+        Answer::Done => text(output, b"done"),
+        Answer::Refused(refusal) => text(output, b"refused ") & number(output, refusal as i64),
     }
 }

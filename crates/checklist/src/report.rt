@@ -1,19 +1,21 @@
 // A line for each fact, with what was seen and what it should be, and the count of them.
 use crate::{print, texts};
 use amounts::Cents;
-use libc::STDERR_FILENO;
 use postings::Answer;
+use std::io::Stdout;
 
-// Facts checked so far, those that are as they should be, and whether every line was taken.
-#[derive(Drop)]
+// Where facts are printed, those checked so far, those that are as they should be, and whether every line was taken.
+#[derive(Clone, Copy)]
 pub(crate) struct Tally {
+    output: Stdout,
     pub checks: u64,
     pub right: u64,
     pub written: bool,
 }
 
-pub(crate) fn none() -> Tally {
+pub(crate) fn none(output: Stdout) -> Tally {
     Tally {
+        output,
         checks: 0,
         right: 0,
         written: true,
@@ -22,54 +24,56 @@ pub(crate) fn none() -> Tally {
 
 // A program has room for far fewer facts than would wrap the count.
 fn counted(tally: Tally, right: bool, printed: bool) -> Tally {
-    let checks = std::num::wrapping_add_u64(tally.checks, 1);
     let mut next = tally;
-    next.checks = checks;
-    let written = tally.written & printed;
-    next.written = written;
+    next.checks = tally.checks.wrapping_add(1);
+    next.written = tally.written & printed;
     if right {
-        let right = std::num::wrapping_add_u64(tally.right, 1);
-        next.right = right;
+        next.right = tally.right.wrapping_add(1);
     }
     next
 }
 
-fn begin(right: bool, what: &[u8]) -> bool {
+fn begin(output: &Stdout, right: bool, what: &[u8]) -> bool {
     let marked = if right {
-        print::text(b"ok    ")
+        print::text(output, b"ok    ")
     } else {
-        print::text(b"WRONG ")
+        print::text(output, b"WRONG ")
     };
-    marked & print::text(what) & print::text(b": ")
+    marked & print::text(output, what) & print::text(output, b": ")
 }
 
-fn end(word: &[u8], text: &[u8]) -> bool {
-    print::text(b", should be ") & print::text(word) & print::text(text) & print::text(b"\n")
+fn end(output: &Stdout, word: &[u8], text: &[u8]) -> bool {
+    print::text(output, b", should be ")
+        & print::text(output, word)
+        & print::text(output, text)
+        & print::text(output, b"\n")
 }
 
-fn end_levels(word: &[u8], secondary: &[u8], primary: &[u8]) -> bool {
-    print::text(b", should be ")
-        & print::text(word)
-        & print::text(secondary)
-        & print::text(b" ")
-        & print::text(primary)
-        & print::text(b"\n")
+fn end_levels(output: &Stdout, word: &[u8], secondary: &[u8], primary: &[u8]) -> bool {
+    print::text(output, b", should be ")
+        & print::text(output, word)
+        & print::text(output, secondary)
+        & print::text(output, b" ")
+        & print::text(output, primary)
+        & print::text(output, b"\n")
 }
 
 // Cents that a book holds.
 pub(crate) fn cents(tally: Tally, what: &[u8], seen: Cents, text: &[u8]) -> Tally {
     let right = texts::cents_read(seen, text);
-    let printed = begin(right, what) & print::cents(seen) & end(b"", text);
+    let output = &tally.output;
+    let printed = begin(output, right, what) & print::cents(output, seen) & end(output, b"", text);
     counted(tally, right, printed)
 }
 
 pub(crate) fn number(tally: Tally, what: &[u8], seen: i64, expected: i64) -> Tally {
     let right = seen == expected;
-    let printed = begin(right, what)
-        & print::number(seen)
-        & print::text(b", should be ")
-        & print::number(expected)
-        & print::text(b"\n");
+    let output = &tally.output;
+    let printed = begin(output, right, what)
+        & print::number(output, seen)
+        & print::text(output, b", should be ")
+        & print::number(output, expected)
+        & print::text(output, b"\n");
     counted(tally, right, printed)
 }
 
@@ -79,7 +83,10 @@ pub(crate) fn line(tally: Tally, what: &[u8], seen: Answer, text: &[u8]) -> Tall
         Answer::Line(line) => texts::cents_read(line, text),
         _ => false,
     };
-    let printed = begin(right, what) & print::answer(seen) & end(b"line ", text);
+    let output = &tally.output;
+    let printed = begin(output, right, what)
+        & print::answer(output, seen)
+        & end(output, b"line ", text);
     counted(tally, right, printed)
 }
 
@@ -89,7 +96,10 @@ pub(crate) fn filed(tally: Tally, what: &[u8], seen: Answer, text: &[u8]) -> Tal
         Answer::Filed(factor) => texts::points_read(factor, text),
         _ => false,
     };
-    let printed = begin(right, what) & print::answer(seen) & end(b"filed ", text);
+    let output = &tally.output;
+    let printed = begin(output, right, what)
+        & print::answer(output, seen)
+        & end(output, b"filed ", text);
     counted(tally, right, printed)
 }
 
@@ -107,9 +117,10 @@ pub(crate) fn filed_levels(
         }
         _ => false,
     };
-    let printed = begin(right, what)
-        & print::answer(seen)
-        & end_levels(b"filed ", secondary, primary);
+    let output = &tally.output;
+    let printed = begin(output, right, what)
+        & print::answer(output, seen)
+        & end_levels(output, b"filed ", secondary, primary);
     counted(tally, right, printed)
 }
 
@@ -127,9 +138,10 @@ pub(crate) fn interest(
         }
         _ => false,
     };
-    let printed = begin(right, what)
-        & print::answer(seen)
-        & end_levels(b"interest ", secondary, primary);
+    let output = &tally.output;
+    let printed = begin(output, right, what)
+        & print::answer(output, seen)
+        & end_levels(output, b"interest ", secondary, primary);
     counted(tally, right, printed)
 }
 
@@ -139,24 +151,24 @@ pub(crate) fn refused(tally: Tally, what: &[u8], seen: Answer, expected: u8) -> 
         Answer::Refused(number) => number == expected,
         _ => false,
     };
-    let printed = begin(right, what)
-        & print::answer(seen)
-        & print::text(b", should be refused ")
-        & print::number(expected as i64)
-        & print::text(b"\n");
+    let output = &tally.output;
+    let printed = begin(output, right, what)
+        & print::answer(output, seen)
+        & print::text(output, b", should be refused ")
+        & print::number(output, expected as i64)
+        & print::text(output, b"\n");
     counted(tally, right, printed)
 }
 
 // The count of facts, and what is to be said where a line was not taken.
-pub(crate) fn print_count(tally: Tally) {
-    let printed = print::count(tally.checks)
-        & print::text(b" checks, ")
-        & print::count(tally.right)
-        & print::text(b" as they should be\n");
+pub(crate) fn print_count(rt: &impl Eprint, tally: Tally) {
+    let output = &tally.output;
+    let printed = print::count(output, tally.checks)
+        & print::text(output, b" checks, ")
+        & print::count(output, tally.right)
+        & print::text(output, b" as they should be\n");
     if !(tally.written & printed) {
-        io::write_all(
-            STDERR_FILENO,
-            b"checklist: not all facts could be written\n",
-        );
+        // Where this fails too, nothing is left to say it to.
+        let _ = eprintln!(rt; "checklist: not all facts could be written");
     }
 }
