@@ -1,5 +1,6 @@
 // Amounts: money in whole cents and factors in points, each a type of its own, with their limits and their text.
 #![tactic(auto)]
+
 ghost use Rattle.std.specs.Prelude.{◌≡◌, ◌≤◌, length};
 ghost use Rattle.amounts.specs.Amounts.{cents_in_limits, points_in_limits};
 ghost use Rattle.amounts.specs.Text.{cents_text, points_text, text_written, text_left};

@@ -1,5 +1,6 @@
 // The electric book's call: a posting goes in with the book, an answer and the next book come back.
 #![tactic(auto)]
+
 ghost use Rattle.std.specs.Prelude.{◌≡◌};
 ghost use Rattle.electric_rules.specs.Book.{refused};
 ghost use Rattle.electric_rules.specs.Refusals.{post_of};

@@ -1,5 +1,6 @@
 // The refusal table of the electric book, up to the rows that look at the next book, with the limits and the calendar that it asks for.
 #![tactic(auto)]
+
 ghost use Rattle.std.specs.Prelude.{◌≡◌, true};
 ghost use Rattle.refusals.specs.Rows.{refusal_by, before};
 ghost use Rattle.postings.specs.Kinds.{kind_of};

@@ -1,6 +1,7 @@
 // The electric book: its types, its opening and its limits. What a posting does to it is said in specs/, with the claim that no cent is
 // lost over any list of postings.
 #![tactic(auto)]
+
 ghost use Rattle.std.specs.Prelude.{◌≡◌};
 ghost use Rattle.electric_rules.specs.Book.{fresh_level, fresh_of, opened_of};
 ghost use Rattle.electric_rules.specs.Rates.{rates_in_range};

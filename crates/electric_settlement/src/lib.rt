@@ -1,5 +1,6 @@
 // What a settlement works out from the period: the customers' share, the levels' shares and what rounding leaves.
 #![tactic(auto)]
+
 ghost use Rattle.std.specs.Prelude.{◌≡◌};
 ghost use Rattle.amounts.specs.Amounts.{cents};
 ghost use Rattle.electric_rules.specs.Book.{remainder};

@@ -1,6 +1,7 @@
 // Signed numbers: the laws of the integers that proofs over them cite (specs/, whose Lib.antt says which to use when), the size
 // of a number, and the test of a range.
 #![tactic(auto)]
+
 ghost use Rattle.std.specs.Prelude.{◌≡◌, nat_abs};
 ghost use Rattle.ints.specs.Range.{in_range};
 

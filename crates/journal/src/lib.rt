@@ -1,5 +1,6 @@
 // The journal: from the bytes of an opening and records to the lines that the journal program prints.
 #![tactic(auto)]
+
 ghost use Rattle.std.specs.Prelude.{◌≡◌, ◌≤◌, length};
 ghost use Rattle.amounts.specs.Text.{text_written, text_left};
 ghost use Rattle.journal.specs.Journal.{journal_of, room_of};

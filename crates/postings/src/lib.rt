@@ -1,5 +1,6 @@
 // Postings: what a book is given and what it answers, with the table of kinds and fields.
 #![tactic(auto)]
+
 ghost use Rattle.std.specs.Prelude.{◌≡◌};
 ghost use Rattle.postings.specs.Kinds.{unknown_kind, stray_number, out_of_range};
 

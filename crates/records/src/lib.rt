@@ -1,5 +1,6 @@
 // Records: the bytes in which postings travel, read and written.
 #![tactic(auto)]
+
 ghost use Rattle.std.specs.Prelude.{◌≡◌, drop};
 ghost use Rattle.records.specs.Fields.{field_or0};
 ghost use Rattle.records.specs.Records.{read_of, record_written, record_left};

@@ -1,5 +1,6 @@
 // What the riders of both books share: runs, and the months of a year.
 #![tactic(auto)]
+
 ghost use Rattle.std.specs.Prelude.{◌≡◌};
 ghost use Rattle.amounts.specs.Amounts.{points};
 ghost use Rattle.riders.specs.Runs.{no_run, narrowed, filed_run, run_in_limits};

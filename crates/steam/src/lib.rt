@@ -1,5 +1,6 @@
 // The steam book's call: a posting goes in with the book, an answer and the next book come back.
 #![tactic(auto)]
+
 ghost use Rattle.std.specs.Prelude.{◌≡◌};
 ghost use Rattle.steam_rules.specs.Book.{refused};
 ghost use Rattle.steam_rules.specs.Refusals.{post_of};

@@ -1,6 +1,7 @@
 // The steam book: its types, its opening and its limits. What a posting does to it is said in specs/, with the claim that no cent is
 // lost over any list of postings.
 #![tactic(auto)]
+
 ghost use Rattle.std.specs.Prelude.{◌≡◌};
 ghost use Rattle.steam_rules.specs.Book.{no_period, no_reconciliation, fresh_of};
 ghost use Rattle.steam_rules.specs.Limits.{mmbtu_in_limits, remainder_in_limits, period_in_limits, quarters_in_limits};

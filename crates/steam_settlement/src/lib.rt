@@ -1,5 +1,6 @@
 // What a settlement works out of the quarter: the customers' share and what rounding leaves; and the sales over which it is spread.
 #![tactic(auto)]
+
 ghost use Rattle.std.specs.Prelude.{◌≡◌, pos};
 ghost use Rattle.amounts.specs.Amounts.{cents};
 ghost use Rattle.steam_rules.specs.Book.{remainder, period_of};

@@ -1,6 +1,5 @@
 -- `journal::electric_run::run` prints the lines of the records, turn by turn. Assumes nothing.
 use mathlib.Core.Path.{ap}
-use Prim.Native.Nat.{◌-◌}
 use native.Mathlib.Omega.{arith}
 use Rattle.electric_rules.specs.declared.Posted.{Posted}
 use Rattle.journal.proofs.Running.{read_on, ended, stopped, again}

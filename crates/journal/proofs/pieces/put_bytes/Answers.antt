@@ -2,7 +2,6 @@
 use mathlib.Core.Path.{refl, sym, ap, ◌∙◌}
 use mathlib.Core.List.{◌++◌}
 use lib.ListN.{length, drop}
-use lib.Seq.{take-length}
 use borrow.Author.Rules.{rules}
 use Rattle.refusals.specs.Stores.{sets_front}
 use Rattle.amounts.proofs.Texts.{kept, stored}

@@ -1,7 +1,7 @@
 -- `postings::ranges::steam_in_fields` tests each field of the steam table, kind by kind. Assumes nothing.
 use mathlib.Core.Path.{◌≡◌, sym, ap, ◌∙◌}
 use mathlib.Core.Bool.{◌||◌}
-use Prim.Native.Nat.{ℕ, ◌≤◌}
+use Prim.Native.Nat.{ℕ}
 use native.Mathlib.Omega.{arith}
 use lib.IntN.{pos}
 use Rattle.ints.specs.Machine.{eq_z}
