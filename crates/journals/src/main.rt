@@ -1,7 +1,7 @@
 // Runs the journal program on each file that its arguments name, and prints the file's name before what it prints.
 #![tactic(auto)]
 
-use std::fs::{File, Files};
+use std::fs::File;
 use std::{env, io};
 
 fn print_name(rt: &(impl Print + Eprint), name: &str) {
