@@ -33,7 +33,8 @@ fn run_file(rt: &HostRuntime, name: &str) {
 }
 
 fn main(rt: HostRuntime) -> io::Result<()> {
-    for name in env::args(&rt)?.skip(1) {
+    // At most 63 files, as many as a call of the program has always read.
+    for name in env::args(&rt)?.skip(1).take(63) {
         run_file(&rt, name.as_str());
     }
     Ok(())
