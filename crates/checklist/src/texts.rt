@@ -1,12 +1,13 @@
 // An amount's text in a buffer: how much of it is filled, and whether it is a given text.
-ghost use Rattle.std.specs.Prelude.{◌≤◌, length};
+ghost use Rattle.std.specs.Prelude.{◌≡◌, ◌≤◌, length, take};
 
 use amounts::{Cents, Points};
 use refusals::Written;
 
 // How many bytes a writer has filled.
 pub(crate) fn filled(written: Written, buffer: &[u8]) -> usize
-    ensures { result ≤ length buffer.now }
+    ensures within { result ≤ length buffer.now }
+    ensures long { result ≡ length (take result buffer.now) }
 {
     let length = written.length;
     if length <= buffer.len() {
