@@ -11,12 +11,14 @@ use lib.Signed.{lt_z, ◌≤ℤ◌, ◌<ℤ◌}
 use lib.ListN.{length, set, length-map, length-append}
 use lib.Seq.{sets}
 use borrow.Author.Tests.{lt-ltb, le-ltb}
-use Rattle.ints.specs.Digits.{digits, length_digits}
+use Rattle.ints.specs.Digits.{digits}
+use Rattle.ints.proofs.DigitLaws.{length_digits}
 use Rattle.ints.specs.Order.{signed}
 use Rattle.refusals.specs.Rows.{row, by_table}
-use Rattle.refusals.specs.Laws.{at_row, accepted}
+use Rattle.refusals.proofs.TableLaws.{at_row, accepted}
 use Rattle.refusals.specs.Stores.{sets_last, sets_append}
-use Rattle.refusals.specs.Writer.{wrote, writer_refused, too_short, writer_refuses, writer_accepts}
+use Rattle.refusals.specs.Writer.{wrote, writer_refused, too_short}
+use Rattle.refusals.proofs.WriterLaws.{writer_refuses, writer_accepts}
 use Rattle.amounts.specs.Text.{characters, width_of, decimal, sign_of, text_of, text_rows, text_written, text_left}
 
 pub length_characters : (count n : ℕ) → length (characters (digits 10 count n)) ≡ count

@@ -4,7 +4,7 @@ use Rattle.std.proofs.Common.{arith, ltb-false}
 use Rattle.std.specs.Int.Signed.{lt_z}
 use Rattle.ints.specs.Digits.{digits}
 use Rattle.refusals.specs.Rows.{Row, row}
-use Rattle.refusals.specs.Laws.{by_table_lem}
+use Rattle.refusals.proofs.TableLaws.{by_table_lem}
 use Rattle.refusals.specs.Writer.{wrote, writer_refused, too_short, written_by, buffer_left}
 use Rattle.refusals.specs.declared.Written.{Written}
 use Rattle.amounts.specs.declared.Cents.{Cents}

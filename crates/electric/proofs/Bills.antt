@@ -6,7 +6,7 @@ use Rattle.ints.specs.Ring.{solve, ◌:+◌, ◌:-◌, ◌:*◌, ◌:=◌, #}
 use Rattle.ints.specs.Range.{Between, Within}
 use Rattle.ints.specs.Bound.{bounds, within_by}
 use Rattle.rounding.specs.Round.{round}
-use Rattle.rounding.specs.Laws.{rounds}
+use Rattle.rounding.proofs.RoundLaws.{rounds}
 use Rattle.riders.specs.Lines.{line_of, part_of, no_line}
 use Rattle.electric_rules.specs.declared.Level.{Level}
 use Rattle.electric_rules.specs.Levels.{factors_of, level_line, bearing_of, interest_on}

@@ -8,7 +8,7 @@ use lib.IntN.{ℤ, pos, ◌+ℤ◌, ◌-ℤ◌, ◌*ℤ◌}
 use borrow.Author.Tests.{not-false}
 use Rattle.ints.specs.Flags.{both}
 use Rattle.ints.specs.Range.{Within}
-use Rattle.refusals.specs.Laws.{by_table_lem}
+use Rattle.refusals.proofs.TableLaws.{by_table_lem}
 use Rattle.postings.specs.Kinds.{Kind, cost, sales, bill, settle, month_end, adjust, reconcile, unknown, kind_of, table_of, is_none, unknown_kind}
 use Rattle.postings.specs.declared.Book.TheVariants.{Electric}
 use Rattle.postings.specs.declared.Posting.{Posting}

@@ -5,7 +5,7 @@ use Prim.Native.Nat.{ℕ}
 use lib.Dec.{leb}
 use borrow.Author.Tests.{not-false, ltb-false, le-leb}
 use Rattle.ints.specs.Range.{in_range}
-use Rattle.refusals.specs.Laws.{by_table_lem}
+use Rattle.refusals.proofs.TableLaws.{by_table_lem}
 use Rattle.amounts.specs.Amounts.{cents_in_limits, points_in_limits}
 use Rattle.postings.specs.declared.Posting.{Posting}
 use Rattle.postings.specs.declared.Answer.{Answer}

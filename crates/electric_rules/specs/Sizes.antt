@@ -4,8 +4,9 @@ use Rattle.ints.specs.Flags.{both}
 use Rattle.ints.specs.Order.{signed, of_le}
 use Rattle.ints.specs.Range.{in_range, Between, Within, in_range_true, in_range_yes}
 use Rattle.ints.specs.Bound.{bounds, within_by}
-use Rattle.rounding.specs.Laws.{rounds}
-use Rattle.rounding.specs.Weight.{most_weighed, weighable, weighable_true, weight_between}
+use Rattle.rounding.proofs.RoundLaws.{rounds}
+use Rattle.rounding.specs.Weight.{most_weighed, weighable}
+use Rattle.rounding.proofs.WeightLaws.{weighable_true, weight_between}
 use Rattle.electric_rules.specs.declared.Rates.{Rates}
 use Rattle.electric_rules.specs.declared.Period.{Period}
 use Rattle.electric_rules.specs.Rates.{rates_lp, rates_mps, rates_of, rates_in_range}

@@ -4,7 +4,6 @@ use Rattle.std.specs.Prelude.{◌≡◌, true, false, ℕ, ◌*◌, ◌<◌, T, 
 use Rattle.std.proofs.Common.{arith}
 use Rattle.std.specs.Int.Signed.{le_z, lt_z}
 use Rattle.ints.specs.Flags.{all_below_lem}
-use Rattle.ints.specs.Digits.{digits, value, value_digits}
 use Rattle.ints.specs.Difference.{differences, split}
 use Rattle.ints.specs.Ring.{◌:+◌, ◌:-◌, ◌:*◌, ◌:=◌, #, solve, eq_by}
 use Rattle.ints.specs.Order.{signed, sum, diff, prod}
@@ -68,10 +67,7 @@ order_to_outcome x h = omega signed
 narrower_range : (x : ℤ) → in_range (pos 1) (pos 9) x ≡ true → in_range (pos 0) (pos 10) x ≡ true
 narrower_range x e = let h = in_range_true (pos 1) (pos 9) x e in in_range_yes (pos 0) (pos 10) x (omega signed)
 
--- ---- digits and tables
-
-three_digits : (n : ℕ) → n < 1000 → value 10 (digits 10 3 n) ≡ n
-three_digits n h = value_digits 10 3 n (omega arith) h
+-- ---- tables
 
 -- a fact of every number below a numeral, by a test that computes
 below_its_double : (k : ℕ) → k < 12 → T (leb k (2 * k))

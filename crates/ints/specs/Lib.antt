@@ -1,7 +1,8 @@
 -- Laws of the integers, for proofs over signed code. In a contract an i64 is a ℤ; what the machine reads back from the bits of z is
 -- `to_z w64 (of_z w64 z)`. Which law to use when, in which module, and a checked example of most: in Examples.antt or, for what
--- code asks of its proof, in src/examples.rt. The check finds most answers of those itself; where it asks for one, as for `variance`,
--- the line stands under proofs/examples/, and the table has the line for code that is larger than its example.
+-- code asks of its proof, in src/examples.rt (of DigitLaws, in itself: it stands in proofs/). The check finds most answers of those
+-- itself; where it asks for one, as for `variance`, the line stands under proofs/examples/, and the table has the line for code that is
+-- larger than its example.
 --
 --   to show                                  write                                                   module      example
 --   an equation of sums and products         solve 3 (λ x y z. .. := ..) tt x y z                    Ring        products
@@ -25,7 +26,7 @@
 --   .. where `not r` is what is known        tested_not p f c.f.ensures c.if-x-y.false               Machine     kept
 --   that `size` gave a number's size         size_read c.ranges.x c.size.ensures                     Machine
 --   that a call is handed on                 handed_on f r p q (c.f.type_inv) c.f.ensures            Machine     handed
---   that digits make their number, and back  value_digits base n .., digits_value base ds ..         Digits      three_digits
+--   that digits make their number, and back  value_digits base n .., digits_value base ds ..         DigitLaws   three_digits
 --   a fact of every number below a numeral   all_below_lem 12 f tt k h                               Flags       below_its_double
 pub mod Flags
 pub mod Difference

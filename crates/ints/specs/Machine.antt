@@ -13,7 +13,7 @@ use Rattle.ints.specs.Bound.{twice}
 
 -- ---- what was read back
 
--- of a call's result a need is told the bare bound: `reads w64 c.f.result c.f.ok`
+-- of a call's result a goal is told the bare bound: `reads w64 c.f.result c.f.type_inv`
 pub reads : (w : Width) (z : ℤ) → mag z < 2 ^ hbits w → to_z w (of_z w z) ≡ z
 reads w z h = to_z-of_z {w = w} {z = z} (record { sfits = h })
 

@@ -1,5 +1,5 @@
-// Worked examples of signed code, one function for each kind of fact that such code asks of its proof (proofs/examples/). Nothing
-// calls them.
+// Worked examples of signed code, one function for each kind of fact that such code asks of its proof (proofs/examples/, where the check
+// does not find the answer itself). Nothing calls them.
 ghost use Rattle.std.specs.Prelude.{◌≡◌, cond, pos, neg_ℤ, ◌+ℤ◌, ◌-ℤ◌, ◌*ℤ◌, ◌≤ℤ◌};
 ghost use Rattle.ints.specs.Range.{Between, Within, in_range};
 ghost use Rattle.ints.specs.Machine.{eq_z};

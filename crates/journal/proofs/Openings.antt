@@ -9,7 +9,7 @@ use lib.IntN.{pos}
 use lib.ListN.{length}
 use borrow.Author.Tests.{ltb-false, lt-ltb, le-ltb, eq-eqb, ne_eqb}
 use Rattle.refusals.specs.Rows.{row, refusal_by}
-use Rattle.refusals.specs.Laws.{at_row, past_row, accepted, gives_asked, gives_refusal, gives_number}
+use Rattle.refusals.proofs.TableLaws.{at_row, past_row, accepted, gives_asked, gives_refusal, gives_number}
 use Rattle.postings.specs.Answers.{answer_number}
 use Rattle.postings.specs.declared.Answer.TheVariants.{Done}
 use Rattle.riders.specs.Histories.{was_accepted}

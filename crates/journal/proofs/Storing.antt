@@ -7,7 +7,7 @@ use native.Mathlib.Omega.{arith}
 use lib.ListN.{length, take, drop, length-append, length-drop, drop_of_length-le}
 use lib.Seq.{sets, sets-eq, length-sets, take_all, drop-drop}
 use borrow.Author.Tests.{lt-ltb, le-ltb}
-use Rattle.refusals.specs.Laws.{row_passed, row_holds}
+use Rattle.refusals.proofs.TableLaws.{row_passed, row_holds}
 use Rattle.refusals.specs.Stores.{sets_append, sets_front}
 use Rattle.refusals.specs.Writer.{wrote, writer_refused}
 use Rattle.amounts.specs.Text.{text_written, text_left}

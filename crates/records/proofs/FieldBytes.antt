@@ -13,7 +13,8 @@ use mir.Syntax.{w64}
 use mir.Val.{to_z}
 use mir.Facts.{to_z_pos, to_z-neg}
 use borrow.Author.Tests.{lt-ltb, le-ltb, ltb-true, ltb-false}
-use Rattle.ints.specs.Digits.{digits, value, digits_split, length_digits, value_append}
+use Rattle.ints.specs.Digits.{digits, value}
+use Rattle.ints.proofs.DigitLaws.{digits_split, length_digits, value_append}
 use Rattle.ints.specs.Machine.{eq_z, eq_z_false}
 use Rattle.ints.specs.Order.{signed}
 use Rattle.refusals.specs.Stores.{sets_append}

@@ -11,7 +11,8 @@ use lib.Seq.{take_at, drop_at, drop-drop, length-take-le}
 use mir.Syntax.{w64}
 use mir.Val.{SFits}
 use borrow.Author.Tests.{ltb-true, ltb-false}
-use Rattle.ints.specs.Digits.{Digits, digits, value, length_digits, value_digits, value_below, digits_value}
+use Rattle.ints.specs.Digits.{Digits, digits, value}
+use Rattle.ints.proofs.DigitLaws.{length_digits, value_digits, value_below, digits_value}
 use Rattle.ints.specs.Machine.{eq_z, eq_z_true}
 use Rattle.ints.specs.Order.{signed}
 use Rattle.postings.proofs.BitMaps.{count}
@@ -87,10 +88,10 @@ abbrev pub AllFit : List ℤ → Type 0
 AllFit [] = Unit
 AllFit (z ∷ numbers) = SFits w64 z × AllFit numbers
 
-pub fields_read : (numbers : List ℤ) (after : List ℕ) → AllFit numbers → fields_at (standing numbers) (field_bytes numbers ++ after) ≡ numbers
+pub fields_read_lem : (numbers : List ℤ) (after : List ℕ) → AllFit numbers → fields_at (standing numbers) (field_bytes numbers ++ after) ≡ numbers
 unfolding fields_at field_bytes bytes_of
-fields_read [] after f = refl
-fields_read (z ∷ numbers) after f = go (eq_z z (pos 0)) refl (fields_read numbers after f.1)
+fields_read_lem [] after f = refl
+fields_read_lem (z ∷ numbers) after f = go (eq_z z (pos 0)) refl (fields_read_lem numbers after f.1)
   where
     go : (t : Bool) → eq_z z (pos 0) ≡ t → fields_at (standing numbers) (field_bytes numbers ++ after) ≡ numbers → fields_at (not t ∷ standing numbers) ((cond t [] (digits 256 8 (bits_of z)) ++ field_bytes numbers) ++ after) ≡ z ∷ numbers
     go true e more = (λ i. sym (eq_z_true z (pos 0) e) i ∷ more i)

@@ -10,7 +10,7 @@ use lib.ListN.{length, get_or, drop}
 use lib.Seq.{drop-drop, get_or-drop}
 use borrow.Author.Tests.{lt-ltb, le-ltb}
 use Rattle.refusals.specs.Rows.{Row, row, refusal_by, by_table}
-use Rattle.refusals.specs.Laws.{at_row, past_row, accepted, gives_asked, gives_refusal}
+use Rattle.refusals.proofs.TableLaws.{at_row, past_row, accepted, gives_asked, gives_refusal}
 use Rattle.postings.proofs.BitMaps.{count, ones_of_bits, map_of_bits}
 use Rattle.postings.proofs.KindTable.{maps_none, maps_some, stands_beyond_lem, none_beyond}
 use Rattle.postings.specs.Kinds.{fields_of, unknown_kind, stands_beyond}

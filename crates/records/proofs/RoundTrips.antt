@@ -10,8 +10,10 @@ use lib.Seq.{take_at, drop-append_seam}
 use borrow.Author.Tests.{ltb-false, le-ltb}
 use Rattle.ints.specs.Digits.{Digits}
 use Rattle.refusals.specs.Rows.{refusal_by, by_table}
-use Rattle.refusals.specs.Laws.{NoneHolds, none_holds, accepted, gives_asked}
-use Rattle.refusals.specs.Writer.{too_short, wrote, writer_refused, written_number}
+use Rattle.refusals.specs.Laws.{NoneHolds}
+use Rattle.refusals.proofs.TableLaws.{none_holds, accepted, gives_asked}
+use Rattle.refusals.specs.Writer.{too_short, wrote, writer_refused}
+use Rattle.refusals.proofs.WriterLaws.{written_number}
 use Rattle.refusals.specs.declared.Written.{Written}
 use Rattle.postings.proofs.BitMaps.{count, map_of_bits, bits_of_map, map_small, ones_of_bits}
 use Rattle.postings.proofs.KindTable.{maps_most, none_beyond, small_map}
@@ -19,7 +21,7 @@ use Rattle.postings.specs.Kinds.{fields_of, unknown_kind, numbers_of, standing, 
 use Rattle.postings.specs.BitMaps.{bits_from, bit_map_of, maps_of}
 use Rattle.postings.specs.declared.Book.{Book}
 use Rattle.postings.specs.declared.Posting.{Posting}
-use Rattle.records.proofs.FieldTrips.{fields_read, none_zero, standing_read, fields_written, digits_drop}
+use Rattle.records.proofs.FieldTrips.{fields_read_lem, none_zero, standing_read, fields_written, digits_drop}
 use Rattle.records.proofs.Writing.{length_record}
 use Rattle.records.specs.Records.{record_length, kind_in, bit_map_in, fields_at, numbers_in, zero_present, reading_rows, posting_of, found_at, refused_at, read_of, read_number, field_bytes, record_of, writing_rows, record_written, record_left}
 use Rattle.records.specs.RoundTrips.{InWords, WrittenIsRead, ReadIsWritten}
@@ -43,7 +45,7 @@ module _ (book : Book) (p : Posting) (before after : List ℕ) (words : InWords 
   numbers_are : fields_at (bits_from 3 m) (field_bytes (numbers_of p) ++ after) ≡ numbers_of p
   numbers_are =
       ap (λ (l : List Bool). fields_at l (field_bytes (numbers_of p) ++ after)) (bits_of_map bits)
-      ∙ fields_read (numbers_of p) after (words.0, (words.1, (words.2, tt)))
+      ∙ fields_read_lem (numbers_of p) after (words.0, (words.1, (words.2, tt)))
 
   rows_pass : NoneHolds (reading_rows book record_after)
   unfolding record_of

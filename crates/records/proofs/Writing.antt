@@ -9,12 +9,14 @@ use lib.IntN.{ℤ, pos}
 use lib.ListN.{length, set, length-append}
 use lib.Seq.{sets}
 use borrow.Author.Tests.{lt-ltb, le-ltb}
-use Rattle.ints.specs.Digits.{digits, length_digits}
+use Rattle.ints.specs.Digits.{digits}
+use Rattle.ints.proofs.DigitLaws.{length_digits}
 use Rattle.ints.specs.Machine.{eq_z}
 use Rattle.refusals.specs.Rows.{Row, refusal_by}
-use Rattle.refusals.specs.Laws.{at_row, past_row, accepted}
+use Rattle.refusals.proofs.TableLaws.{at_row, past_row, accepted}
 use Rattle.refusals.specs.Stores.{sets_append}
-use Rattle.refusals.specs.Writer.{wrote, writer_refused, too_short, writer_refuses, writer_accepts}
+use Rattle.refusals.specs.Writer.{wrote, writer_refused, too_short}
+use Rattle.refusals.proofs.WriterLaws.{writer_refuses, writer_accepts}
 use Rattle.postings.proofs.BitMaps.{count, ones_of_map}
 use Rattle.postings.proofs.KindTable.{maps_none, maps_some, stands_beyond_lem, none_beyond}
 use Rattle.postings.specs.Kinds.{fields_of, unknown_kind, numbers_of, standing, stands_beyond, stray_number}

@@ -4,7 +4,7 @@ use Rattle.std.proofs.Common.{sym, ap, ◌∙◌, arith, length-drop, ltb-false}
 use Rattle.std.specs.Int.Count.{ones}
 use Rattle.ints.specs.Machine.{eq_z}
 use Rattle.refusals.specs.Rows.{Row, row, refusal_by, by_table}
-use Rattle.refusals.specs.Laws.{none_holds, gives_asked, gives_number}
+use Rattle.refusals.proofs.TableLaws.{none_holds, gives_asked, gives_number}
 use Rattle.refusals.specs.Writer.{too_short, written_by, buffer_left}
 use Rattle.refusals.specs.declared.Written.{Written}
 use Rattle.postings.specs.BitMaps.{bits_from, bit_map_of}

@@ -5,7 +5,7 @@ use Rattle.std.proofs.Common.{ap, ◌∙◌}
 use Rattle.ints.specs.Order.{signed}
 use Rattle.ints.specs.Ring.{solve, ◌:+◌, ◌:-◌, ◌:*◌, ◌:=◌, #}
 use Rattle.rounding.specs.Round.{round}
-use Rattle.rounding.specs.Laws.{round_exact}
+use Rattle.rounding.proofs.RoundLaws.{round_exact}
 use Rattle.amounts.specs.declared.Points.{Points}
 
 -- factors together

@@ -6,7 +6,8 @@ use Rattle.std.proofs.Math.Bool.{true, false}
 use Rattle.std.proofs.Math.Dec.{eqb}
 use Rattle.std.proofs.Common.{eqb-true}
 use Rattle.refusals.specs.Rows.{Row, refusal_by, by_table}
-use Rattle.refusals.specs.Laws.{NoneHolds, numbered, none_holds, gives_refusal, gives_number}
+use Rattle.refusals.specs.Laws.{NoneHolds, numbered}
+use Rattle.refusals.proofs.TableLaws.{none_holds, gives_refusal, gives_number}
 use Rattle.postings.specs.Answers.{answer_number}
 use Rattle.postings.specs.declared.Posting.{Posting}
 use Rattle.postings.specs.declared.Answer.{Answer}

@@ -6,7 +6,7 @@ use Rattle.ints.specs.Range.{Within}
 use Rattle.ints.specs.Order.{signed, sum, diff, minus}
 use Rattle.ints.specs.Ring.{solve, eq_by, ◌:+◌, ◌:-◌, ◌:*◌, ◌:=◌, #}
 use Rattle.rounding.specs.Round.{round}
-use Rattle.rounding.specs.Laws.{round_leaves}
+use Rattle.rounding.proofs.RoundLaws.{round_leaves}
 
 -- half of the parts of a cent, and the customers' percentage
 module _ (half : ℕ) (percentage : ℤ) where

@@ -11,8 +11,8 @@ use mir.Facts.{to_z_pos}
 use Rattle.ints.specs.Order.{signed, of_le, of_lt}
 use Rattle.ints.specs.Machine.{not_read}
 use Rattle.rounding.specs.Round.{nearest_of, with_sign, round}
-use Rattle.rounding.specs.Nearest.{nearest_small}
-use Rattle.rounding.specs.Laws.{round_by}
+use Rattle.rounding.proofs.NearestLaws.{nearest_small}
+use Rattle.rounding.proofs.RoundLaws.{round_by}
 
 -- ---- on either side of zero
 

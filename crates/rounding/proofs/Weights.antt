@@ -8,8 +8,9 @@ use lib.Signed.{◌≤ℤ◌}
 use Rattle.ints.specs.Order.{signed, of_le}
 use Rattle.ints.specs.Bound.{between_abs}
 use Rattle.rounding.specs.Round.{nearest_of, round}
-use Rattle.rounding.specs.Laws.{round_by, round_below}
-use Rattle.rounding.specs.Weight.{weight_of, weighable, weight_or0, weighable_true, weight_or0_is}
+use Rattle.rounding.proofs.RoundLaws.{round_by, round_below}
+use Rattle.rounding.specs.Weight.{weight_of, weighable, weight_or0}
+use Rattle.rounding.proofs.WeightLaws.{weighable_true, weight_or0_is}
 
 pub not_secondary : (s p : ℤ) → weighable s ≡ false → weight_or0 s p ≡ pos 0
 unfolding weight_or0

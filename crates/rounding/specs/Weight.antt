@@ -1,12 +1,8 @@
--- The weight of the secondary level in a settlement (01, Electric book, Settle), with its laws. Each W is kWh times loss
--- factor.
-use Rattle.std.specs.Prelude.{◌≡◌, Bool, true, cond, ◌&&◌, ℕ, zero, suc, ◌+◌, ◌*◌, ◌≤◌, ℤ, pos, negsuc, ◌+ℤ◌, ◌*ℤ◌, ◌≤ℤ◌}
-use Rattle.std.proofs.Common.{arith}
-use Rattle.ints.specs.Order.{signed, of_le}
-use Rattle.ints.specs.Range.{Between, in_range, in_range_true}
+-- The weight of the secondary level in a settlement (01, Electric book, Settle). Each W is kWh times loss factor. Its laws stand in
+-- proofs/WeightLaws.antt.
+use Rattle.std.specs.Prelude.{Bool, cond, ◌&&◌, ℕ, ℤ, pos, ◌+ℤ◌, ◌*ℤ◌}
+use Rattle.ints.specs.Range.{in_range}
 use Rattle.rounding.specs.Round.{round}
-use Rattle.rounding.specs.Nearest.{nearest_part}
-use Rattle.rounding.specs.Laws.{round_below, round_by}
 
 -- w = round(100000 × Ws / (Ws + Wp))
 unfoldable pub weight_of : ℤ → ℤ → ℤ
@@ -22,26 +18,3 @@ weighable w = in_range (pos 0) (pos most_weighed) w
 -- the weight of two that can be weighed, and 0 of any others
 unfoldable pub weight_or0 : ℤ → ℤ → ℤ
 weight_or0 secondary primary = cond (weighable secondary && weighable primary) (weight_of secondary primary) (pos 0)
-
--- ---- laws
-
-pub weighable_true : (w : ℤ) → weighable w ≡ true → Between (pos 0) (pos most_weighed) w
-unfolding weighable
-weighable_true w e = in_range_true (pos 0) (pos most_weighed) w e
-
--- within the limits, what the call gives is the formula
-pub weight_or0_is : (s p : ℤ) → weighable s ≡ true → weighable p ≡ true → weight_or0 s p ≡ weight_of s p
-unfolding weight_or0
-weight_or0_is s p e f = simp (e, f)
-
--- a weight is a part of 100000
-pub weight_between : (s p : ℤ) → pos 0 ≤ℤ s → pos 0 ≤ℤ p → Between (pos 0) (pos 100000) (weight_of s p)
-unfolding weight_of
-weight_between (pos s) (pos p) h k = go (s + p) (omega arith)
-  where
-    go : (whole : ℕ) → s ≤ whole → Between (pos 0) (pos 100000) (round (pos (100000 * s)) (pos whole))
-    go zero l = rw (round_below (pos (100000 * s)) (pos 0) (omega signed)) (omega signed)
-    go (suc n) l =
-        rw (round_by (pos (100000 * s)) (pos (suc n)) (omega signed)) (omega (signed, nearest_part 100000 s (suc n) l (omega arith)))
-weight_between (pos s) (negsuc p) h k = absurd (omega (signed, of_le k))
-weight_between (negsuc s) p h k = absurd (omega (signed, of_le h))

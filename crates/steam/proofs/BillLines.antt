@@ -8,7 +8,7 @@ use lib.ListN.{length, get_or, take}
 use Rattle.ints.specs.Ring.{solve, ◌:+◌, ◌:=◌, #}
 use Rattle.ints.specs.Range.{Between, Within, between_same}
 use Rattle.ints.specs.Bound.{bounds, within_by}
-use Rattle.rounding.specs.Laws.{rounds}
+use Rattle.rounding.proofs.RoundLaws.{rounds}
 use Rattle.amounts.specs.Amounts.{cents, points}
 use Rattle.amounts.specs.declared.Points.{Points}
 use Rattle.riders.specs.Lines.{together, line_of, part_of, no_line}

@@ -6,7 +6,7 @@ use mathlib.Core.List.{List}
 use Prim.Native.Nat.{ℕ, zero, suc}
 use lib.IntN.{ℤ, pos, ◌+ℤ◌}
 use Rattle.ints.specs.Ring.{solve, ◌:+◌, ◌:=◌}
-use Rattle.refusals.specs.Laws.{by_table_lem}
+use Rattle.refusals.proofs.TableLaws.{by_table_lem}
 use Rattle.postings.specs.Kinds.{Kind, cost, sales, bill, settle, month_end, adjust, reconcile, unknown, kind_of, table_of, is_none, unknown_kind}
 use Rattle.postings.specs.declared.Book.TheVariants.{Steam}
 use Rattle.postings.specs.declared.Posting.{Posting}

@@ -5,7 +5,7 @@ use mathlib.Core.List.{List}
 use lib.IntN.{pos}
 use borrow.Author.Tests.{not-false}
 use Rattle.ints.specs.Range.{in_range}
-use Rattle.refusals.specs.Laws.{by_table_lem}
+use Rattle.refusals.proofs.TableLaws.{by_table_lem}
 use Rattle.amounts.specs.Amounts.{cents_in_limits, points_in_limits}
 use Rattle.postings.specs.declared.Posting.{Posting}
 use Rattle.postings.specs.declared.Answer.{Answer}

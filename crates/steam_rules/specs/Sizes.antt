@@ -1,7 +1,7 @@
 -- How large the amounts of a settlement can be, for books in limits. Assumes nothing.
 use Rattle.ints.specs.Range.{Within}
 use Rattle.ints.specs.Bound.{bounds, within_by}
-use Rattle.rounding.specs.Laws.{rounds}
+use Rattle.rounding.proofs.RoundLaws.{rounds}
 use Rattle.steam_rules.specs.declared.Period.{Period}
 use Rattle.steam_rules.specs.Settlement.{variance_of, shareable_of, share_of}
 use Rattle.steam_rules.specs.Ranges.{PeriodWithin}

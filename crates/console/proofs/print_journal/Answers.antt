@@ -1,8 +1,9 @@
 -- What is handed over is what the journal's writer has written, which is the whole journal where it refuses nothing.
 use Rattle.std.proofs.Common.{◌≡◌, ◌++◌, ◌∙◌, ◌≤◌, ℕ, List, ap, arith, drop, length, length-take-le, subst, sym, take}
 use Rattle.std.proofs.Math.Seq.{take-append_seam}
-use Rattle.refusals.specs.Laws.{gives_asked}
-use Rattle.refusals.specs.Writer.{wrote, writer_refused, written_number}
+use Rattle.refusals.proofs.TableLaws.{gives_asked}
+use Rattle.refusals.specs.Writer.{wrote, writer_refused}
+use Rattle.refusals.proofs.WriterLaws.{written_number}
 use Rattle.refusals.specs.declared.Written.{Written}
 use Rattle.amounts.specs.Text.{text_rows, text_written, text_left, written_within}
 use Rattle.console.proofs.print_journal.Goals as goal

@@ -6,7 +6,7 @@ use Rattle.electric_rules.specs.Book.{posted}
 use Rattle.electric_rules.specs.Limits.{in_limits}
 use Rattle.electric_rules.specs.Refusals.{rules}
 use Rattle.electric_rules.specs.Ranges.{book_within}
-use Rattle.riders.specs.Posts as posts
+use Rattle.riders.proofs.PostLaws as posts
 use Rattle.electric.proofs.post.Goals as goal
 
 pub returns-then-number-ne0 : goal.returns-then-number-ne0

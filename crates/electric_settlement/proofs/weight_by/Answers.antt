@@ -6,7 +6,8 @@ use mir.Val.{SFits, to_z, of_z}
 use mir.Facts.{to_z-of_z}
 use Rattle.ints.specs.Bound.{b_between, bounds, fits64}
 use Rattle.ints.specs.Machine.{handed_on}
-use Rattle.rounding.specs.Weight.{weight_or0, weight_or0_is}
+use Rattle.rounding.specs.Weight.{weight_or0}
+use Rattle.rounding.proofs.WeightLaws.{weight_or0_is}
 use Rattle.electric_rules.specs.Settlement.{weight_by}
 use Rattle.electric_rules.specs.Sizes.{weighable_secondary, weighable_primary}
 use Rattle.electric_settlement.specs.Shares.{as_weight}

@@ -7,7 +7,7 @@ use mir.Facts.{to_z-of_z}
 use Rattle.ints.specs.Order.{signed}
 use Rattle.ints.specs.Machine.{reads, size_read}
 use Rattle.rounding.proofs.Signs.{Parts, quotient_small, quotient_is}
-use Rattle.rounding.specs.Laws.{round_below}
+use Rattle.rounding.proofs.RoundLaws.{round_below}
 use Rattle.rounding.proofs.round_div.Goals as goal
 
 pub returns-then-b-lt1 : goal.returns-then-b-lt1

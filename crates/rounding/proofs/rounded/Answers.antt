@@ -3,7 +3,7 @@ use Prim.Native.Nat.{◌*◌}
 use native.Mathlib.Omega.{arith}
 use borrow.Author.Tests.{lt-ltb, le-ltb}
 use Rattle.rounding.specs.Round.{rounded_of}
-use Rattle.rounding.specs.Nearest.{tie_small}
+use Rattle.rounding.proofs.NearestLaws.{tie_small}
 use Rattle.rounding.proofs.rounded.Goals as goal
 
 pub returns-then-rest-lacking : goal.returns-then-rest-lacking

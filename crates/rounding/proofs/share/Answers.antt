@@ -3,7 +3,7 @@ use mathlib.Core.Path.{◌∙◌, sym}
 use Prim.Native.Nat.{◌*◌}
 use native.Mathlib.Omega.{arith}
 use Rattle.rounding.proofs.LongDivision.{Steps, steps}
-use Rattle.rounding.specs.Nearest.{nearest_of_lem, nearest_part}
+use Rattle.rounding.proofs.NearestLaws.{nearest_of_lem, nearest_part}
 use Rattle.rounding.proofs.share.Goals as goal
 
 pub returns : goal.returns

@@ -6,7 +6,7 @@ use Rattle.steam_rules.specs.Book.{posted}
 use Rattle.steam_rules.specs.Limits.{in_limits}
 use Rattle.steam_rules.specs.Refusals.{rules}
 use Rattle.steam_rules.specs.Ranges.{book_within}
-use Rattle.riders.specs.Posts as posts
+use Rattle.riders.proofs.PostLaws as posts
 use Rattle.steam.proofs.post.Goals as goal
 
 pub returns-then-number-ne0 : goal.returns-then-number-ne0

@@ -2,7 +2,7 @@
 use mathlib.Core.Path.{sym}
 use native.Mathlib.Omega.{arith}
 use borrow.Author.Tests.{lt-ltb, le-ltb}
-use Rattle.refusals.specs.Laws.{row_passed, row_holds}
+use Rattle.refusals.proofs.TableLaws.{row_passed, row_holds}
 use Rattle.refusals.specs.Writer.{wrote, writer_refused}
 use Rattle.amounts.proofs.text.written.Goals as goal
 

@@ -7,7 +7,7 @@ use Rattle.ints.specs.Range.{Within, between_same}
 use Rattle.ints.specs.Bound.{bounds, fits64}
 use Rattle.ints.specs.Exact.{exacts, e_eq, exact}
 use Rattle.rounding.specs.Round.{round}
-use Rattle.rounding.specs.Laws.{rounds}
+use Rattle.rounding.proofs.RoundLaws.{rounds}
 use Rattle.amounts.specs.Amounts.{same_cents}
 use Rattle.electric_rules.specs.Levels.{interest_on}
 use Rattle.electric.proofs.Bills.{bearing_within}

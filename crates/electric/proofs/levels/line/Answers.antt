@@ -5,7 +5,7 @@ use mir.Syntax.{w64}
 use mir.Val.{to_z, of_z}
 use Rattle.rounding.specs.Round.{round}
 use Rattle.ints.specs.Exact.{exacts, e_eq, exact}
-use Rattle.rounding.specs.Laws.{rounds}
+use Rattle.rounding.proofs.RoundLaws.{rounds}
 use Rattle.ints.specs.Bound.{bounds, fits64}
 use Rattle.amounts.specs.Amounts.{same_cents}
 use Rattle.electric.proofs.Bills.{line_is}

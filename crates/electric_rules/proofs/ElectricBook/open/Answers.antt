@@ -3,7 +3,7 @@ use mathlib.Core.Path.{sym, ◌∙◌}
 use Prim.Native.Nat.{◌<◌, ◌≤◌}
 use native.Mathlib.Omega.{arith}
 use borrow.Author.Tests.{lt-ltb, le-ltb}
-use Rattle.refusals.specs.Laws.{row_passed, row_holds}
+use Rattle.refusals.proofs.TableLaws.{row_passed, row_holds}
 use Rattle.postings.specs.declared.Answer.TheVariants.{Done}
 use Rattle.electric_rules.specs.Book.{posted, refused, opened_of}
 use Rattle.electric_rules.proofs.ElectricBook.open.Goals as goal

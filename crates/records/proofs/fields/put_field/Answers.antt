@@ -8,7 +8,8 @@ use lib.Seq.{sets}
 use mir.Syntax.{w64}
 use mir.Val.{of_z}
 use mir.Facts.{to_z-of_z}
-use Rattle.ints.specs.Digits.{digits, length_digits}
+use Rattle.ints.specs.Digits.{digits}
+use Rattle.ints.proofs.DigitLaws.{length_digits}
 use Rattle.ints.specs.Machine.{eq_bits, zero64}
 use Rattle.records.proofs.FieldBytes.{no_field, a_field}
 use Rattle.records.specs.Fields.{bits_of, bytes_of}

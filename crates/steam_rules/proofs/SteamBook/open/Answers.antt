@@ -2,7 +2,7 @@
 use mathlib.Core.Path.{sym, ap, ◌∙◌}
 use mathlib.Core.Bool.{not}
 use native.Mathlib.Omega.{arith}
-use Rattle.refusals.specs.Laws.{row_passed, row_holds}
+use Rattle.refusals.proofs.TableLaws.{row_passed, row_holds}
 use Rattle.postings.specs.declared.Answer.TheVariants.{Done}
 use Rattle.steam_rules.specs.Book.{posted, refused}
 use Rattle.steam_rules.specs.Opening.{opened_of}

@@ -11,7 +11,8 @@ use Rattle.ints.specs.Range.{Between}
 use Rattle.ints.specs.Bound.{Bound, abs_neg}
 use Rattle.ints.specs.Exact.{Exact}
 use Rattle.rounding.specs.Round.{nearest_of, with_sign, round}
-use Rattle.rounding.specs.Nearest.{Near, nearest_near, nearest_mono, nearest_exact, nearest_zero, nearest_small, nearest_by}
+use Rattle.rounding.specs.Nearest.{Near}
+use Rattle.rounding.proofs.NearestLaws.{nearest_near, nearest_mono, nearest_exact, nearest_zero, nearest_small, nearest_by}
 
 -- ---- by cases on the divisor
 

@@ -4,7 +4,7 @@ use Rattle.std.proofs.Common.{arith}
 use Rattle.ints.specs.Order.{signed}
 use Rattle.ints.specs.Range.{Between, Within}
 use Rattle.rounding.specs.Round.{round}
-use Rattle.rounding.specs.Laws.{round_leaves, round_between}
+use Rattle.rounding.proofs.RoundLaws.{round_leaves, round_between}
 
 -- what rounding leaves is at most half of the divisor
 remainder_small : (a : ℤ) → Within 50000 (a -ℤ pos 100000 *ℤ round a (pos 100000))

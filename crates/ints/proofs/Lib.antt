@@ -1,0 +1,2 @@
+-- Laws of the definitions in specs/ that a changed definition would break.
+pub mod DigitLaws

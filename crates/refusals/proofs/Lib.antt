@@ -1,0 +1,3 @@
+-- Laws of the definitions in specs/ that a changed definition would break.
+pub mod TableLaws
+pub mod WriterLaws
