@@ -1,74 +1,91 @@
 -- Laws of the text of an amount, as the code stores it: digit by digit from the lowest, and part by part. Assumes nothing.
 use mathlib.Core.Path.{◌≡◌, refl, sym, ap, ◌∙◌}
 use mathlib.Core.Bool.{Bool, true, false, cond}
-use mathlib.Core.List.{List, [], ◌∷◌, ◌++◌, map-append}
+use mathlib.Core.List.{List, [], ◌∷◌, ◌++◌}
+use Rattle.std.proofs.lemmas.List.{map-append}
+use Rattle.std.proofs.Common.{append_assoc}
+use Rattle.std.specs.Str.{IsAscii}
+use Rattle.std.proofs.lemmas.Str.{IsAscii-append}
 use Prim.Native.Nat.{ℕ, zero, suc, ◌+◌, ◌-◌, ◌*◌, ◌/◌, ◌%◌, ◌^◌, ◌<◌, ◌≤◌}
 use native.Mathlib.Omega.{arith}
-use native.Mathlib.Nat.{div-lt_iff_lt-mul}
-use lib.Dec.{ltb}
+use native.Mathlib.Nat.{div-lt_iff_lt-mul, pow-le-pow_right}
+use Rattle.amounts.proofs.Widths.{width_most}
+use lib.Dec.{ltb, lit<}
 use lib.IntN.{ℤ, pos, nat_abs}
-use lib.Signed.{lt_z, ◌≤ℤ◌, ◌<ℤ◌}
-use lib.ListN.{length, set, length-map, length-append}
+use lib.Signed.{lt_z}
+use lib.ListN.{length, set, take, drop, length-set, length-map, length-append}
+use mir.Val.{bool_byte}
+use borrow.Rule.Slice.PartMut.{mid_of, put_mid, mid_len, Post-is}
+use Rattle.std.proofs.lemmas.List.Edits.{sets-eq}
+use Rattle.std.proofs.Math.Seq.{length-sets, length-take-le, take_at}
 use lib.Seq.{sets}
 use borrow.Author.Tests.{lt-ltb, le-ltb}
 use Rattle.ints.specs.Digits.{digits}
 use Rattle.ints.proofs.DigitLaws.{length_digits}
 use Rattle.ints.specs.Order.{signed}
 use Rattle.refusals.specs.Rows.{row, by_table}
-use Rattle.refusals.proofs.TableLaws.{at_row, accepted}
-use Rattle.refusals.specs.Stores.{sets_last, sets_append}
-use Rattle.refusals.specs.Writer.{wrote, writer_refused, too_short}
+use Rattle.refusals.proofs.TableLaws.{at_row, accepted, gives_asked}
+use Rattle.refusals.specs.Stores.{sets_append, sets_front}
+use Rattle.refusals.specs.Writer.{too_short}
+use Rattle.refusals.specs.declared.Refusal.{Refusal}
+use Rattle.refusals.specs.declared.Refusal.TheVariants.{BufferTooShort}
+use Rattle.std.specs.Prelude.{Ok, Err}
 use Rattle.refusals.proofs.WriterLaws.{writer_refuses, writer_accepts}
 use Rattle.amounts.specs.Text.{characters, width_of, decimal, sign_of, text_of, text_rows, text_written, text_left}
 
 pub length_characters : (count n : ℕ) → length (characters (digits 10 count n)) ≡ count
 length_characters count n = length-map (digits 10 count n) (λ (d : ℕ). 48 + d) ∙ length_digits 10 count n
 
--- the digits that are left, once the lowest is stored
-pub digit_stored : (l : List ℕ) (at left n : ℕ) → 0 < left → sets (set l (at + (left - 1)) (48 + n % 10)) at (characters (digits 10 (left - 1) (n / 10))) ≡ sets l at (characters (digits 10 left n))
-unfolding digits
-digit_stored l at zero n h = absurd (omega arith)
-digit_stored l at (suc left) n h =
-    let ds = digits 10 left (n / 10) in
-    let one : suc left - 1 ≡ left = omega arith in
-    let long : length (characters ds) ≡ left = length_characters left (n / 10) in
-    (λ i. sets (set l (at + one i) (48 + n % 10)) at (characters (digits 10 (one i) (n / 10))))
-    ∙ ap (λ (k : ℕ). sets (set l (at + k) (48 + n % 10)) at (characters ds)) (sym long)
-    ∙ sym (sets_last l at (characters ds) (48 + n % 10))
-    ∙ ap (sets l at) (sym (map-append (λ (d : ℕ). 48 + d) ds (n % 10 ∷ [])))
+-- ---- digits, of which the last two are stored behind the others
 
-pub digits_stored : (l : List ℕ) (at left n : ℕ) → left ≤ 0 → l ≡ sets l at (characters (digits 10 left n))
+last_two : (before n : ℕ) → characters (digits 10 (suc (suc before)) n) ≡ characters (digits 10 before (n / 10 / 10)) ++ ((48 + n / 10 % 10) ∷ (48 + n % 10) ∷ [])
 unfolding digits
-digits_stored l at zero n h = refl
-digits_stored l at (suc left) n h = absurd (omega arith)
+last_two before n = rw (map-append, map-append, append_assoc) refl
+
+pub pair_stored : (front : List ℕ) (before count n : ℕ) → before + 2 ≡ count → front ≡ characters (digits 10 before (n / 100)) → front ++ ((48 + n % 100 / 10) ∷ (48 + n % 100 % 10) ∷ []) ≡ characters (digits 10 count n)
+pair_stored front before count n e f =
+    let rest : n / 100 ≡ n / 10 / 10 = omega arith in
+    let tens : n % 100 / 10 ≡ n / 10 % 10 = omega arith in
+    let ones : n % 100 % 10 ≡ n % 10 = omega arith in
+    let two : suc (suc before) ≡ count = omega arith in
+    (λ i. (f ∙ ap (λ (m : ℕ). characters (digits 10 before m)) rest) i ++ ((48 + tens i) ∷ (48 + ones i) ∷ []))
+    ∙ sym (last_two before n)
+    ∙ ap (λ (k : ℕ). characters (digits 10 k n)) two
+
+pub digit_stored : (part : List ℕ) (n : ℕ) → length part ≡ 1 → set part 0 (48 + n % 10) ≡ characters (digits 10 (length part) n)
+unfolding digits
+digit_stored [] n e = absurd (omega arith)
+digit_stored (x ∷ []) n e = refl
+digit_stored (x ∷ y ∷ part) n e = absurd (omega arith)
+
+pub none_stored : (part : List ℕ) (n : ℕ) → length part ≡ 0 → part ≡ characters (digits 10 (length part) n)
+unfolding digits
+none_stored [] n e = refl
+none_stored (x ∷ part) n e = absurd (omega arith)
 
 -- ---- the whole text
 
-pub whole_small : (size unit : ℕ) → 10 ≤ unit → size ≤ 2 ^ 63 → size / unit < 10 ^ 18
-whole_small size unit h k =
-    let some : 0 < unit = omega arith in
-    let enough : size < 10 ^ 18 * unit = omega arith in
-    (div-lt_iff_lt-mul some).1 enough
-
-pub minus : (z : ℤ) → z <ℤ pos 0 → sign_of z ≡ 45 ∷ []
+-- the sign's length is the test of it, as a byte
+pub length_sign : (z : ℤ) → length (sign_of z) ≡ bool_byte (lt_z z (pos 0))
 unfolding sign_of
-minus z h =
-    let t : lt_z z (pos 0) ≡ true = omega signed in
-    simp t
-
-pub no_minus : (z : ℤ) → pos 0 ≤ℤ z → sign_of z ≡ []
-unfolding sign_of
-no_minus z h =
-    let t : lt_z z (pos 0) ≡ false = omega signed in
-    simp t
-
-pub length_sign : (z : ℤ) (n : ℕ) → n ≡ length (sign_of z) → n ≤ 1
-unfolding sign_of
-length_sign z n e = go (lt_z z (pos 0)) e
+length_sign z = go (lt_z z (pos 0))
   where
-    go : (t : Bool) → n ≡ length {A = ℕ} (cond t (45 ∷ []) []) → n ≤ 1
-    go true e = omega arith
-    go false e = omega arith
+    go : (t : Bool) → length {A = ℕ} (cond t (45 ∷ []) []) ≡ bool_byte t
+    go true = refl
+    go false = refl
+
+bool_byte-le : (t : Bool) → bool_byte t ≤ 1
+bool_byte-le true = omega arith
+bool_byte-le false = omega arith
+
+-- a sign is stored where the test says so
+pub sign_stored : (z : ℤ) (buffer : List ℕ) → lt_z z (pos 0) ≡ true → set buffer 0 45 ≡ sets buffer 0 (sign_of z)
+unfolding sign_of
+sign_stored z buffer e = simp e
+
+pub no_sign_stored : (z : ℤ) (buffer : List ℕ) → lt_z z (pos 0) ≡ false → buffer ≡ sets buffer 0 (sign_of z)
+unfolding sign_of
+no_sign_stored z buffer e = simp e
 
 pub text_length : (places : ℕ) (z : ℤ) → length (text_of places z) ≡ length (sign_of z) + width_of (nat_abs z / 10 ^ places) + 1 + places
 unfolding text_of decimal
@@ -79,50 +96,108 @@ text_length places z =
     omega
     (arith, length-append (sign_of z) (number ++ rest), length-append number rest, length_characters (width_of whole) whole, length_characters places (nat_abs z))
 
--- what was measured of an amount: its size, its whole part, the lengths of its sign and of its whole part
-pub record Measured (places : ℕ) (z : ℤ) (size whole start count : ℕ) : Type 0 where
+-- digits that fill a part are stored from where it begins
+part_stored : (l ys : List ℕ) (at end n : ℕ) → at ≤ end → end ≤ length l → ys ≡ characters (digits 10 (length (mid_of at (end - at) l)) n) → put_mid at (end - at) l ys ≡ sets l at (characters (digits 10 (end - at) n))
+part_stored l ys at end n h k e =
+    let filled : ys ≡ characters (digits 10 (end - at) n) = e ∙ ap (λ (c : ℕ). characters (digits 10 c n)) (mid_len at end l k) in
+    let long : length ys ≡ end - at = ap length filled ∙ length_characters (end - at) n in
+    ap (λ (t : List ℕ). take at l ++ (ys ++ t)) (Post-is at end l h ∙ ap (λ (c : ℕ). drop c l) (omega arith))
+    ∙ sym (append_assoc (take at l) ys (drop (at + length ys) l))
+    ∙ sym (sets-eq ys l at (omega arith))
+    ∙ ap (sets l at) filled
+
+-- what was measured of an amount: its size, its whole part, where that begins and where it ends
+pub record Measured (places : ℕ) (z : ℤ) (size whole start point : ℕ) : Type 0 where
   pub size_is : size ≡ nat_abs z
   pub whole_is : whole ≡ nat_abs z / 10 ^ places
   pub start_is : start ≡ length (sign_of z)
-  pub count_is : count ≡ width_of whole
+  pub point_is : point ≡ start + width_of whole
 
-module _ (places : ℕ) (z : ℤ) (size whole start count : ℕ) (m : Measured places z size whole start count) where
-  pub length_is : start + count + 1 + places ≡ length (text_of places z)
-  length_is =
-      let e : count ≡ width_of (nat_abs z / 10 ^ places) = m.count_is ∙ ap width_of m.whole_is in
-      omega (arith, m.start_is, text_length places z)
+module _ (places : ℕ) (z : ℤ) (size whole start point : ℕ) (m : Measured places z size whole start point) where
+  pub length_is : point + 1 + places ≡ length (text_of places z)
+  length_is = omega (arith, m.start_is, m.point_is, ap width_of m.whole_is, text_length places z)
+
+  -- a number of 64 bits with a point within has at most 18 digits before it
+  pub length_most : size ≤ 2 ^ 63 → 1 ≤ places → places ≤ 4 → point + 1 + places ≤ 24
+  length_most small some few =
+      let unit : 10 ^ 1 ≤ 10 ^ places = pow-le-pow_right (lit< tt) some in
+      let enough : nat_abs z < 10 ^ 18 * 10 ^ places = omega (arith, m.size_is) in
+      let digits : width_of (nat_abs z / 10 ^ places) ≤ 18 = width_most 17 (nat_abs z / 10 ^ places) ((div-lt_iff_lt-mul (omega arith)).1 enough) in
+      omega (arith, m.start_is, m.point_is, ap width_of m.whole_is, length_sign z, bool_byte-le (lt_z z (pos 0)))
 
   -- its parts, stored one behind the other, are its text
-  pub text_stored : (buffer sign-stored whole-stored stored : List ℕ) → sign-stored ≡ sets buffer 0 (sign_of z) → whole-stored ≡ sets sign-stored start (characters (digits 10 count whole)) → stored ≡ sets (set whole-stored (start + count) 46) (start + count + 1) (characters (digits 10 places size)) → stored ≡ sets buffer 0 (text_of places z)
+  pub text_stored : (buffer signed number fraction : List ℕ) → point + 1 + places ≤ length buffer → signed ≡ sets buffer 0 (sign_of z)
+      → number ≡ characters (digits 10 (length (mid_of start (point - start) signed)) whole)
+      → (let pointed = set (put_mid start (point - start) signed number) point 46 in
+      fraction ≡ characters (digits 10 (length (mid_of (point + 1) (point + 1 + places - (point + 1)) pointed)) size)
+      → put_mid (point + 1) (point + 1 + places - (point + 1)) pointed fraction ≡ sets buffer 0 (text_of places z))
   unfolding text_of decimal
-  text_stored buffer sign-stored whole-stored stored e f g =
-      let number = characters (digits 10 (width_of (nat_abs z / 10 ^ places)) (nat_abs z / 10 ^ places)) in
+  text_stored buffer signed number fraction room e f g =
+      let digits-of-whole = characters (digits 10 (width_of (nat_abs z / 10 ^ places)) (nat_abs z / 10 ^ places)) in
       let rest : List ℕ = 46 ∷ characters (digits 10 places (nat_abs z)) in
-      let n : characters (digits 10 count whole) ≡ number = (λ i. characters (digits 10 ((m.count_is ∙ ap width_of m.whole_is) i) (m.whole_is i))) in
-      let a : start ≡ 0 + length (sign_of z) = omega (arith, m.start_is) in
-      let b : start + count ≡ start + length number = omega (arith, m.count_is, ap width_of m.whole_is, length_characters (width_of (nat_abs z / 10 ^ places)) (nat_abs z / 10 ^ places)) in
-      let d : start + count + 1 ≡ suc (start + length number) = omega arith in
-      g
-      ∙ (λ i. sets (set (f i) (b i) 46) (d i) (characters (digits 10 places (m.size_is i))))
-      ∙ (λ i. sets (sets (e i) start (n i)) (start + length number) rest)
-      ∙ sym (sets_append (sets buffer 0 (sign_of z)) start number rest)
-      ∙ ap (λ (k : ℕ). sets (sets buffer 0 (sign_of z)) k (number ++ rest)) a
-      ∙ sym (sets_append buffer 0 (sign_of z) (number ++ rest))
+      let wide : point - start ≡ width_of (nat_abs z / 10 ^ places) = omega (arith, m.point_is, ap width_of m.whole_is) in
+      let long : length digits-of-whole ≡ point - start = omega (arith, length_characters (width_of (nat_abs z / 10 ^ places)) (nat_abs z / 10 ^ places)) in
+      let first : start ≡ 0 + length (sign_of z) = omega (arith, m.start_is) in
+      let then : start + length digits-of-whole ≡ point = omega (arith, m.point_is) in
+      let after : suc (start + length digits-of-whole) ≡ point + 1 = omega arith in
+      let last : point + 1 + places - (point + 1) ≡ places = omega arith in
+      let whole-stored = part_stored signed number start point whole (omega (arith, m.point_is)) (omega (arith, ap length e, length-sets buffer 0 (sign_of z))) f in
+      let pointed = set (put_mid start (point - start) signed number) point 46 in
+      let room-left : point + 1 + places ≤ length pointed = omega (arith, ap length e, length-sets buffer 0 (sign_of z), ap length whole-stored, length-sets signed start (characters (digits 10 (point - start) whole)), length-set (put_mid start (point - start) signed number) point 46) in
+      part_stored pointed fraction (point + 1) (point + 1 + places) size (omega arith) room-left g
+      ∙ (λ i. sets (set (whole-stored i) (sym then i) 46) (sym after i) (characters (digits 10 (last i) (m.size_is i))))
+      ∙ (λ i. sets (sets (e i) start (characters (digits 10 (wide i) (m.whole_is i)))) (start + length digits-of-whole) rest)
+      ∙ sym (sets_append (sets buffer 0 (sign_of z)) start digits-of-whole rest)
+      ∙ ap (λ (k : ℕ). sets (sets buffer 0 (sign_of z)) k (digits-of-whole ++ rest)) first
+      ∙ sym (sets_append buffer 0 (sign_of z) (digits-of-whole ++ rest))
 
 -- ---- the buffer afterwards, and the answer
 
 pub kept : (text buffer : List ℕ) → length buffer < length text → buffer ≡ text_left text buffer
 unfolding text_left too_short
-kept text buffer h = (writer_refuses (text_rows text buffer) text buffer 13 (omega arith) (at_row 13 [] (lt-ltb (length buffer) (length text) h))).1
+kept text buffer h = (writer_refuses (text_rows text buffer) text buffer BufferTooShort (at_row BufferTooShort [] (lt-ltb (length buffer) (length text) h))).1
 
 pub stored : (text buffer after : List ℕ) → length text ≤ length buffer → after ≡ sets buffer 0 text → after ≡ text_left text buffer
 unfolding text_left too_short
 stored text buffer after h s = (writer_accepts (text_rows text buffer) text buffer after (length text) (accepted (text_rows text buffer) (le-ltb (length buffer) (length text) h, tt)) h refl s).1
 
 -- a writer answers by the lengths of text and buffer alone
-pub answered : (text buffer : List ℕ) (n room : ℕ) → n ≡ length text → room ≡ length buffer → by_table (row 13 (ltb room n) ∷ []) (wrote n) writer_refused ≡ text_written text buffer
+pub answered : (text buffer : List ℕ) (n room : ℕ) → n ≡ length text → room ≡ length buffer → by_table (row BufferTooShort (ltb room n) ∷ []) (Ok n) Err ≡ text_written text buffer
 unfolding text_written too_short
-answered text buffer n room e f = λ i. by_table (row 13 (ltb (f i) (e i)) ∷ []) (wrote (e i)) writer_refused
+answered text buffer n room e f = λ i. by_table (row BufferTooShort (ltb (f i) (e i)) ∷ []) (Ok (e i)) Err
+
+-- a buffer that holds the text has it at its front
+pub left_front : (text buffer : List ℕ) (n : ℕ) → n ≡ length text → n ≤ length buffer → take n (text_left text buffer) ≡ text
+unfolding text_left too_short
+left_front text buffer n e room =
+    ap (take n) (gives_asked (text_rows text buffer) (text ++ drop (length text) buffer) (λ (refusal : Refusal). buffer) (accepted (text_rows text buffer) (le-ltb (length buffer) (length text) (omega arith), tt)))
+    ∙ take_at text (drop (length text) buffer) n (sym e)
+
+-- ---- each byte of a text is ASCII
+
+ascii_one : (byte : ℕ) → byte < 128 → IsAscii (byte ∷ [])
+ascii_one byte h zero = h
+ascii_one byte h (suc i) = omega arith
+
+ascii_digits : (count n : ℕ) → IsAscii (characters (digits 10 count n))
+unfolding digits
+ascii_digits zero n = λ i. omega arith
+ascii_digits (suc count) n = rw map-append (IsAscii-append _ _ (ascii_digits count (n / 10)) (ascii_one (48 + n % 10) (omega arith)))
+
+ascii_sign : (z : ℤ) → IsAscii (sign_of z)
+unfolding sign_of
+ascii_sign z = go (lt_z z (pos 0))
+  where
+    go : (t : Bool) → IsAscii (cond t (45 ∷ []) [])
+    go true = ascii_one 45 (omega arith)
+    go false = λ i. omega arith
+
+pub ascii_text : (places : ℕ) (z : ℤ) → IsAscii (text_of places z)
+unfolding text_of decimal
+ascii_text places z =
+    let whole = nat_abs z / 10 ^ places in
+    IsAscii-append (sign_of z) _ (ascii_sign z)
+    (IsAscii-append (characters (digits 10 (width_of whole) whole)) _ (ascii_digits (width_of whole) whole) (IsAscii-append (46 ∷ []) _ (ascii_one 46 (omega arith)) (ascii_digits places (nat_abs z))))
 
 -- ---- a whole number
 
@@ -130,6 +205,10 @@ pub decimal_length : (count n : ℕ) → count ≡ width_of n → count ≡ leng
 unfolding decimal
 decimal_length count n e = e ∙ sym (length_characters (width_of n) n)
 
-pub decimal_stored : (buffer after : List ℕ) (count n : ℕ) → count ≡ width_of n → after ≡ sets buffer 0 (characters (digits 10 count n)) → after ≡ sets buffer 0 (decimal n)
+pub decimal_stored : (buffer part : List ℕ) (count whole n : ℕ) → count ≤ length buffer → count ≡ width_of n → whole ≡ n → part ≡ characters (digits 10 (length (take count buffer)) whole) → part ++ drop count buffer ≡ sets buffer 0 (decimal n)
 unfolding decimal
-decimal_stored buffer after count n e s = s ∙ ap (λ (k : ℕ). sets buffer 0 (characters (digits 10 k n))) e
+decimal_stored buffer part count whole n room e f s =
+    let wide : length (take count buffer) ≡ width_of n = length-take-le count buffer room ∙ e in
+    let long : length (characters (digits 10 (width_of n) n)) ≡ count = length_characters (width_of n) n ∙ sym e in
+    (λ i. (s ∙ (λ j. characters (digits 10 (wide j) (f j)))) i ++ drop (sym long i) buffer)
+    ∙ sym (sets_front buffer (characters (digits 10 (width_of n) n)) (omega arith))

@@ -1,11 +1,7 @@
--- How many digits a number has, counted by powers of ten: what the loop of `text::width` knows after each turn. Assumes nothing.
-use mathlib.Core.Path.{◌≡◌, refl, sym, ap, ◌∙◌, subst}
-use mathlib.Core.Bool.{Bool, true, false, cond}
-use Prim.Native.Nat.{ℕ, zero, suc, ◌+◌, ◌*◌, ◌/◌, ◌^◌, ◌<◌, ◌≤◌}
-use native.Mathlib.Omega.{arith}
-use native.Mathlib.Nat.{pow-suc, pow-le-pow_right, one-le-pow, div-div-eq-div-mul, le-div_iff_mul-le, div-lt_iff_lt-mul, mul-div_cancel}
-use lib.Dec.{leb, ltb, lit<}
-use borrow.Author.Tests.{lt-ltb, le-ltb, ltb-true, ltb-false, leb-true, leb-false}
+-- How many digits a number has, by the power of ten that it reaches: what std says of `ilog10`. Assumes nothing.
+use Rattle.std.proofs.Common.{◌≡◌, refl, sym, ap, ◌∙◌, true, false, cond, Bool, ℕ, zero, suc, ◌+◌, ◌*◌, ◌/◌, ◌^◌, ◌<◌, ◌≤◌, max, ltb, arith, pow-suc}
+use Rattle.std.proofs.Math.Nat.{one-le-pow}
+use borrow.Author.Tests.{lt-ltb, le-ltb, ltb-true, ltb-false}
 use Rattle.amounts.specs.Text.{width_in, width_of, EnoughRoom}
 
 pub enough_room : EnoughRoom
@@ -27,42 +23,22 @@ more_digits (suc n) h =
     ap (λ (t : Bool). cond t 1 (suc (width_in n (suc n / 10)))) (le-ltb (suc n) 10 h)
     ∙ ap suc (enough_room n (suc n / 10) (suc n / 10) (omega arith) (omega arith))
 
--- so many digits are counted, and 10 to their number is the power: the rest of n has the rest of its digits
-pub record Counted (n width power : ℕ) : Type 0 where
-  pub digits : width_of n + 1 ≡ width + width_of (n * 10 / power)
-  pub is_power : power ≡ 10 ^ width
-  pub few : width ≤ 18
+-- a number from one power of ten up to the next has one digit more than the power says
+pub width_by_power : (k n : ℕ) → 10 ^ k ≤ n → n < 10 * 10 ^ k → width_of n ≡ k + 1
+width_by_power zero n h l = one_digit n l
+width_by_power (suc k) n h l =
+    let power : 10 ^ suc k ≡ 10 ^ k * 10 = pow-suc 10 k in
+    let some : 1 ≤ 10 ^ k = one-le-pow k 10 (omega arith) in
+    let less : 10 ^ k ≤ n / 10 = omega arith in
+    let more : n / 10 < 10 * 10 ^ k = omega arith in
+    omega (arith, more_digits n (omega arith), width_by_power k (n / 10) less more)
 
-pub start : (n : ℕ) → Counted n 1 10
-start n = record { digits = omega (arith, ap width_of (mul-div_cancel n {n = 10} (omega arith))); is_power = refl; few = omega arith }
-
-module _ (n width power : ℕ) (c : Counted n width power) where
-  pub positive : 1 ≤ power
-  positive = subst (λ (p : ℕ). 1 ≤ p) (sym c.is_power) (one-le-pow width 10 (omega arith))
-
-  pub again : n < 10 ^ 18 → power ≤ n → Counted n (width + 1) (power * 10)
-  again small h =
-      let enough : 10 * power ≤ n * 10 = omega arith in
-      let more : 10 ≤ n * 10 / power = (le-div_iff_mul-le positive).1 enough in
-      let rest : n * 10 / power / 10 ≡ n * 10 / (power * 10) = div-div-eq-div-mul (n * 10) power 10 in
-      let e : width_of (n * 10 / power) ≡ suc (width_of (n * 10 / (power * 10))) = more_digits (n * 10 / power) more ∙ ap (λ (m : ℕ). suc (width_of m)) rest in
-      let next : width + 1 ≡ suc width = omega arith in
-      record {
-        digits = omega (arith, c.digits);
-        is_power = ap (λ (p : ℕ). p * 10) c.is_power ∙ sym (pow-suc 10 width) ∙ ap (λ (w : ℕ). 10 ^ w) (sym next);
-        few = few_by (leb 18 width) refl;
-      }
-    where
-      few_by : (t : Bool) → leb 18 width ≡ t → width + 1 ≤ 18
-      few_by true q =
-          let p : 10 ^ 18 ≤ 10 ^ width = pow-le-pow_right (lit< tt) (leb-true 18 width q) in
-          absurd (omega (arith, c.is_power))
-      few_by false q = omega (arith, leb-false 18 width q)
-
-  pub done : n < power → width ≡ width_of n
-  done h =
-      let last : n * 10 / power < 10 = (div-lt_iff_lt-mul positive).1 (omega arith) in
-      omega (arith, c.digits, one_digit (n * 10 / power) last)
+-- what `ilog10` says of a number gives its digits: of 0, which has one, it is asked as of 1
+pub width_by_ilog10 : (k n most : ℕ) → most ≡ max n 1 → 10 ^ k ≤ most → most < 10 * 10 ^ k → k + 1 ≡ width_of n
+width_by_ilog10 k zero most e h l = omega (arith, width_by_power k most h l, one_digit most (omega arith), one_digit 0 (omega arith))
+width_by_ilog10 k (suc n) most e h l =
+    let same : most ≡ suc n = omega arith in
+    sym (width_by_power k most h l) ∙ ap width_of same
 
 -- a number below 10 to some power has no more digits than that
 pub width_most : (more n : ℕ) → n < 10 ^ suc more → width_of n ≤ suc more
@@ -73,5 +49,4 @@ width_most (suc more) n h = go (ltb n 10) refl (width_most more (n / 10))
     go true e most = omega (arith, one_digit n (ltb-true n 10 e))
     go false e most =
         let small : n < 10 ^ suc more * 10 = omega (arith, pow-suc 10 (suc more)) in
-        let fewer = most ((div-lt_iff_lt-mul (lit< tt)).1 small) in
-        omega (arith, more_digits n (ltb-false n 10 e))
+        omega (arith, more_digits n (ltb-false n 10 e), most (omega arith))

@@ -1,12 +1,13 @@
 -- Amounts as text (01, Text): characters are their ASCII codes.
-use Rattle.std.specs.Prelude.{◌≡◌, cond, List, [], ◌∷◌, ◌++◌, map, ℕ, zero, suc, ◌+◌, ◌/◌, ◌^◌, ◌≤◌, ltb, ℤ, pos, nat_abs, length}
-use Rattle.std.proofs.Common.{arith, ltb-false}
+use Rattle.std.specs.Prelude.{◌≡◌, refl, cond, List, [], ◌∷◌, ◌++◌, map, ℕ, zero, suc, ◌+◌, ◌/◌, ◌^◌, ◌≤◌, ltb, ℤ, pos, nat_abs, length, Result, Ok, Err, IfOk}
+use Rattle.std.proofs.Common.{ltb-false}
 use Rattle.std.specs.Int.Signed.{lt_z}
 use Rattle.ints.specs.Digits.{digits}
 use Rattle.refusals.specs.Rows.{Row, row}
 use Rattle.refusals.proofs.TableLaws.{by_table_lem}
-use Rattle.refusals.specs.Writer.{wrote, writer_refused, too_short, written_by, buffer_left}
-use Rattle.refusals.specs.declared.Written.{Written}
+use Rattle.refusals.specs.Writer.{too_short, written_by, buffer_left}
+use Rattle.refusals.specs.declared.Refusal.{Refusal}
+use Rattle.refusals.specs.declared.Refusal.TheVariants.{BufferTooShort}
 use Rattle.amounts.specs.declared.Cents.{Cents}
 use Rattle.amounts.specs.declared.Points.{Points}
 
@@ -48,20 +49,29 @@ cents_text cents = text_of 2 cents.0
 unfoldable pub points_text : Points → List ℕ
 points_text points = text_of 4 points.0
 
--- the text writer refuses under 13 only
+-- each is the text of its number
+pub cents_text_is : (amount : Cents) → cents_text amount ≡ text_of 2 amount.0
+unfolding cents_text
+cents_text_is amount = refl
+
+pub points_text_is : (amount : Points) → points_text amount ≡ text_of 4 amount.0
+unfolding points_text
+points_text_is amount = refl
+
+-- the text writer refuses as too short a buffer only
 abbrev pub text_rows : List ℕ → List ℕ → List Row
-text_rows text buffer = row 13 (too_short text buffer) ∷ []
+text_rows text buffer = row BufferTooShort (too_short text buffer) ∷ []
 
 -- what a writer of the text answers, and what it leaves in the buffer
-unfoldable pub text_written : List ℕ → List ℕ → Written
+unfoldable pub text_written : List ℕ → List ℕ → Result ℕ Refusal
 text_written text buffer = written_by (text_rows text buffer) text
 
 unfoldable pub text_left : List ℕ → List ℕ → List ℕ
 text_left text buffer = buffer_left (text_rows text buffer) text buffer
 
 -- no more was written than the buffer holds
-pub written_within : (text buffer : List ℕ) → (text_written text buffer).length ≤ length buffer
+pub written_within : (text buffer : List ℕ) → IfOk (text_written text buffer) (λ (n : ℕ). n ≤ length buffer)
 unfolding text_written too_short
 written_within text buffer =
-    by_table_lem (λ (w : Written). w.length ≤ length buffer) (text_rows text buffer) (wrote (length text)) writer_refused tt
-    (λ none. ltb-false (length buffer) (length text) none.0) (λ n refuses. omega arith)
+    by_table_lem (λ (w : Result ℕ Refusal). IfOk w (λ (n : ℕ). n ≤ length buffer)) (text_rows text buffer) (Ok (length text)) Err
+    (λ none. ltb-false (length buffer) (length text) none.0) (λ refusal. tt)

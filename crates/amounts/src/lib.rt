@@ -1,22 +1,95 @@
 // Amounts: money in whole cents and factors in points, each a type of its own, with their limits and their text.
 #![tactic(auto)]
 
-ghost use Rattle.std.specs.Prelude.{◌≡◌, ◌≤◌, length};
+ghost use Rattle.std.specs.Prelude.{◌≡◌, Bool, List, Some, ℕ, ℤ, ◌≤◌, length};
+ghost use Rattle.std.specs.List.{list_all};
+ghost use Rattle.std.proofs.Common.{rules};
 ghost use Rattle.amounts.specs.Amounts.{cents_in_limits, points_in_limits};
-ghost use Rattle.amounts.specs.Text.{cents_text, points_text, text_written, text_left};
+ghost use Rattle.amounts.specs.Text.{text_of, cents_text, cents_text_is, points_text, points_text_is, text_written, text_left};
 
-use refusals::Written;
+use refusals::Refusal;
+use std::fmt;
 
 pub mod text;
 
+// A value that a book stores.
+pub trait Stored: Copy {
+    ghost within: { Self → Bool };
+
+    // Whether a book may store the value. Each kind has a body of its own: one over a number and its limits would ask of a kind six members
+    // in place of a line.
+    fn in_limits(self) -> bool
+        ensures { result ≡ within self };
+}
+
+// A book may store an array where it may store each element.
+impl<T: Stored, const N: usize> Stored for [T; N] {
+    ghost within = { list_all T.within };
+
+    fn in_limits(self) -> bool {
+        self.iter().all(|value| value.in_limits())
+    }
+}
+
+// A stored value that has a text.
+pub trait Amount: Stored {
+    ghost number: { Self → ℤ };
+
+    ghost text: { Self → List ℕ };
+
+    ghost PLACES: { ℕ };
+
+    // How many digits stand after the point.
+    const PLACES: u32;
+
+    // How many of its smallest unit it is.
+    fn number(self) -> i64
+        ensures { result ≡ number self };
+
+    ghost text_by_number: { (amount : Self) → text amount ≡ text_of PLACES (number amount) };
+
+    ghost few_places: { (1 ≤ PLACES) × (PLACES ≤ 4) };
+
+    // Stores the text where the buffer has room for it, and answers its length in either case.
+    final fn put(self, buffer: &mut [u8]) -> usize
+        ensures { (result ≡ length (text self)) × (result ≤ 24) × (buffer.new ≡ text_left (text self) buffer.old) }
+    {
+        let amount = self.number();
+        let negative = amount < 0;
+        let size = amount.unsigned_abs();
+        let whole = size / 10u64.pow(Self::PLACES);
+        let start = usize::from(negative);
+        let point = start + text::width(whole);
+        let length = point + 1 + Self::PLACES as usize;
+        if buffer.len() < length {
+            return length;
+        }
+        if negative {
+            buffer[0] = b'-';
+        }
+        text::put_digits(&mut buffer[start..point], whole);
+        buffer[point] = b'.';
+        text::put_digits(&mut buffer[point + 1..length], size);
+        length
+    }
+
+    // Writes the amount as text into the buffer: how many bytes, or refusal 13 with the buffer as it was.
+    final fn write(self, buffer: &mut [u8]) -> Result<usize, Refusal>
+        ensures { (result ≡ text_written (text self) buffer.old) × (buffer.new ≡ text_left (text self) buffer.old) }
+    {
+        let length = self.put(buffer);
+        text::written(length, buffer.len())
+    }
+}
+
 // Money in whole cents.
 #[repr(C)]
-#[derive(Clone, Copy)]
+#[derive(Clone, Copy, Debug, PartialEq, Eq)]
 pub struct Cents(pub i64);
 
 // A factor: points of $0.0001 per kWh or per million BTU.
 #[repr(C)]
-#[derive(Clone, Copy)]
+#[derive(Clone, Copy, Debug, PartialEq, Eq)]
 pub struct Points(pub i32);
 
 impl Cents {
@@ -25,27 +98,39 @@ impl Cents {
 
     // The most that a book may store.
     pub const MOST: i64 = 1_000_000_000_000;
+}
 
-    // Whether a book may store the amount.
-    pub fn in_limits(self) -> bool
-        ensures { result ≡ cents_in_limits self }
-    {
+impl Stored for Cents {
+    ghost within = { cents_in_limits };
+
+    fn in_limits(self) -> bool {
         ints::in_range(self.0, Cents::LEAST, Cents::MOST)
     }
+}
 
-    // Stores the text where the buffer has room for it, and answers its length in either case.
-    pub fn put(self, buffer: &mut [u8]) -> usize
-        ensures { (result ≡ length (cents_text self)) × (result ≤ 24) × (buffer.new ≡ text_left (cents_text self) buffer.old) }
-    {
-        text::put(self.0, 2, 100, buffer)
+impl Amount for Cents {
+    ghost number = { λ amount. amount.0 };
+
+    ghost text = { cents_text };
+
+    ghost PLACES = { 2 };
+
+    ghost text_by_number = { cents_text_is };
+
+    ghost few_places = { Prim.search rules };
+
+    const PLACES: u32 = 2;
+
+    fn number(self) -> i64 {
+        self.0
     }
+}
 
-    // Writes the amount as text into the buffer: how many bytes, or refusal 13 with the buffer as it was.
-    pub fn write(self, buffer: &mut [u8]) -> Written
-        ensures { (result ≡ text_written (cents_text self) buffer.old) × (buffer.new ≡ text_left (cents_text self) buffer.old) }
-    {
-        let length = self.put(buffer);
-        text::written(length, buffer.len())
+impl fmt::Display for Cents {
+    ghost output = { λ amount. Some (cents_text amount) };
+
+    fn fmt<W: fmt::Write>(&self, f: &mut fmt::Formatter<W>) -> fmt::Result {
+        text::show(*self, f)
     }
 }
 
@@ -58,26 +143,42 @@ impl Points {
 
     // Points to a cent, since a point is $0.0001.
     pub const TO_A_CENT: i64 = 100;
+}
 
-    // Whether a book may store the factor.
-    pub fn in_limits(self) -> bool
-        ensures { result ≡ points_in_limits self }
-    {
-        ints::in_range(self.0 as i64, Points::LEAST as i64, Points::MOST as i64)
+impl Stored for Points {
+    ghost within = { points_in_limits };
+
+    fn in_limits(self) -> bool {
+        ints::in_range(
+            self.number(),
+            i64::from(Points::LEAST),
+            i64::from(Points::MOST),
+        )
     }
+}
 
-    // Stores the text where the buffer has room for it, and answers its length in either case.
-    pub fn put(self, buffer: &mut [u8]) -> usize
-        ensures { (result ≡ length (points_text self)) × (result ≤ 24) × (buffer.new ≡ text_left (points_text self) buffer.old) }
-    {
-        text::put(self.0 as i64, 4, 10_000, buffer)
+impl Amount for Points {
+    ghost number = { λ amount. amount.0 };
+
+    ghost text = { points_text };
+
+    ghost PLACES = { 4 };
+
+    ghost text_by_number = { points_text_is };
+
+    ghost few_places = { Prim.search rules };
+
+    const PLACES: u32 = 4;
+
+    fn number(self) -> i64 {
+        i64::from(self.0)
     }
+}
 
-    // Writes the factor as text into the buffer: how many bytes, or refusal 13 with the buffer as it was.
-    pub fn write(self, buffer: &mut [u8]) -> Written
-        ensures { (result ≡ text_written (points_text self) buffer.old) × (buffer.new ≡ text_left (points_text self) buffer.old) }
-    {
-        let length = self.put(buffer);
-        text::written(length, buffer.len())
+impl fmt::Display for Points {
+    ghost output = { λ amount. Some (points_text amount) };
+
+    fn fmt<W: fmt::Write>(&self, f: &mut fmt::Formatter<W>) -> fmt::Result {
+        text::show(*self, f)
     }
 }

@@ -1,100 +1,62 @@
-// The text of an amount, written where it is to stand: its length first, then its bytes.
-ghost use Rattle.std.specs.Prelude.{◌≡◌, [], ◌∷◌, ◌+◌, ◌^◌, ◌≤◌, ◌<◌, ltb, length};
-ghost use Rattle.std.proofs.lemmas.List.Edits.{sets};
+// The parts of a text, written where they are to stand: how many digits, the digits, and what the writer answers.
+ghost use Rattle.std.specs.Prelude.{◌≡◌, [], ◌∷◌, ◌≤◌, ltb, length};
 ghost use Rattle.ints.specs.Digits.{digits};
+ghost use Rattle.std.specs.Fmt.{WritesOnOk};
 ghost use Rattle.refusals.specs.Rows.{row, by_table};
-ghost use Rattle.refusals.specs.Writer.{wrote, writer_refused};
-ghost use Rattle.amounts.specs.Text.{characters, width_of, decimal, sign_of, text_of, text_left};
+ghost use Rattle.amounts.specs.Text.{characters, width_of, decimal, text_left};
 
-use refusals::Written;
+use crate::Amount;
+use refusals::Refusal;
+use std::{fmt, str};
 
 // How many digits a whole number has.
-fn width(n: u64) -> usize
-    requires { n < 10 ^ 18 }
-    ensures { (result ≡ width_of n) × (result ≤ 18) }
+pub(crate) fn width(n: u64) -> usize
+    ensures digits { result ≡ width_of n }
+    ensures few { result ≤ 20 }
 {
-    let mut width = 1;
-    let mut power = 10;
-    while power <= n {
-        power = power * 10;
-        width = width + 1;
-    }
-    width
+    n.max(1).ilog10() as usize + 1
 }
 
-// Stores the last `count` digits of n from a place on, the lowest first.
-fn put_digits(buffer: &mut [u8], at: usize, count: usize, n: u64)
-    requires { at + count ≤ length buffer.old }
-    ensures { buffer.new ≡ sets buffer.old at (characters (digits 10 count n)) }
+// Stores the last digits of n, as many as there is room for, two at a time.
+pub(crate) fn put_digits(part: &mut [u8], n: u64)
+    ensures { part.new ≡ characters (digits 10 (length part.old) n) }
 {
-    let mut left = count;
-    let mut rest = n;
-    while 0 < left {
-        left = left - 1;
-        buffer[at + left] = 48 + (rest % 10) as u8;
-        rest = rest / 10;
+    if let Some((front, pair)) = part.split_last_chunk_mut() {
+        let last = (n % 100) as u8;
+        *pair = [b'0' + last / 10, b'0' + last % 10];
+        put_digits(front, n / 100);
+    } else if let Some(digit) = part.first_mut() {
+        *digit = b'0' + (n % 10) as u8;
     }
-}
-
-// The length of an amount's sign.
-fn sign_length(amount: i64) -> usize
-    ensures { result ≡ length (sign_of amount) }
-{
-    if 0 <= amount { 0 } else { 1 }
-}
-
-fn put_sign(amount: i64, buffer: &mut [u8])
-    requires { 0 < length buffer.old }
-    ensures { buffer.new ≡ sets buffer.old 0 (sign_of amount) }
-{
-    if amount < 0 {
-        buffer[0] = b'-';
-    }
-}
-
-// Stores the text of an amount of which `unit`, 10 to the power of `places`, make one whole, where the buffer has room for it. Answers the
-// text's length in either case.
-pub(crate) fn put(amount: i64, places: usize, unit: u64, buffer: &mut [u8]) -> usize
-    requires { (unit ≡ 10 ^ places) × (10 ≤ unit) × (places ≤ 4) }
-    ensures { (result ≡ length (text_of places amount)) × (result ≤ 24) × (buffer.new ≡ text_left (text_of places amount) buffer.old) }
-{
-    let size = ints::size(amount);
-    let whole = size / unit;
-    let count = width(whole);
-    let start = sign_length(amount);
-    let point = start + count;
-    let length = point + 1 + places;
-    if buffer.len() < length {
-        return length;
-    }
-    put_sign(amount, buffer);
-    put_digits(buffer, start, count, whole);
-    buffer[point] = b'.';
-    put_digits(buffer, point + 1, places, size);
-    length
 }
 
 // What the writer of a text of this length answers for a buffer of that one.
-pub(crate) fn written(length: usize, room: usize) -> Written
-    ensures { result ≡ by_table (row 13 (ltb room length) ∷ []) (wrote length) writer_refused }
+pub(crate) fn written(length: usize, room: usize) -> Result<usize, Refusal>
+    ensures { result ≡ by_table (row Refusal.BufferTooShort (ltb room length) ∷ []) (Ok length) Err }
 {
     if room < length {
-        return Written {
-            number: 13,
-            length: 0,
-        };
+        return Err(Refusal::BufferTooShort);
     }
-    Written { number: 0, length }
+    Ok(length)
 }
 
 // Stores a whole number as text where the buffer has room for it, and answers the text's length in either case.
 pub fn put_decimal(n: u32, buffer: &mut [u8]) -> usize
     ensures { (result ≡ length (decimal n)) × (result ≤ 10) × (buffer.new ≡ text_left (decimal n) buffer.old) }
 {
-    let whole = n as u64;
+    let whole = u64::from(n);
     let count = width(whole);
     if count <= buffer.len() {
-        put_digits(buffer, 0, count, whole);
+        put_digits(&mut buffer[..count], whole);
     }
     count
+}
+
+// Shows an amount by its text, which 24 bytes always hold, and which is always ASCII.
+pub(crate) fn show<A: Amount, W: fmt::Write>(amount: A, f: &mut fmt::Formatter<W>) -> fmt::Result
+    ensures { WritesOnOk W.write_str_gives f.old result (A.text amount) f.new }
+{
+    let mut buffer = [0; 24];
+    let length = amount.put(&mut buffer);
+    f.pad(str::from_utf8(&buffer[..length]).unwrap())
 }

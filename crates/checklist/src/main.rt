@@ -1,20 +1,21 @@
 // The field engineer's checklist: short histories of postings to fresh books, each value that was seen beside what it should be.
 #![tactic(auto)]
 
-mod electric_postings;
 mod handover;
-mod print;
+mod histories;
 mod refusal;
 mod remainders;
 mod report;
+mod shown;
 mod sign;
-mod steam_postings;
-mod texts;
+
+use report::Tally;
 
 fn main(rt: HostRuntime) {
-    let tally = sign::check(report::none(rt.stdout()));
-    let tally = remainders::check(tally);
-    let tally = handover::check(tally);
-    let tally = refusal::check(tally);
-    report::print_count(&rt, tally);
+    let mut tally = Tally::new(rt.stdout());
+    sign::check(&mut tally);
+    remainders::check(&mut tally);
+    handover::check(&mut tally);
+    refusal::check(&mut tally);
+    tally.print_count(&rt);
 }

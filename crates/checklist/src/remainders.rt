@@ -1,109 +1,70 @@
 // Rounding: two tiny periods settled in a row, and no remainder is dropped.
+use crate::histories::{self, ElectricPostings, Ledger, SteamPostings};
 use crate::report::Tally;
-use crate::{electric_postings, report, steam_postings};
+use crate::shown::Shown;
 use electric_rules::ElectricBook;
+use refusals::Refusal;
 use steam_rules::SteamBook;
 
-pub(crate) fn check(tally: Tally) -> Tally {
-    steam(electric(tally))
+pub(crate) fn check(tally: &mut Tally) {
+    tally.history("Rounding, electric", electric);
+    tally.history("Rounding, steam", steam);
 }
 
-fn tiny_period(book: ElectricBook) -> ElectricBook {
-    electric_postings::sales(electric_postings::cost(book, 1_080), 600, 0)
+fn tiny_period(book: ElectricBook) -> Result<ElectricBook, Refusal> {
+    book.cost(1_080)?.sales(600, 0)
 }
 
 // V = 1000 × 1,080 − 1,799 × 600 = 600 and 95V = 57,000, so first R = 1 and rem = 57,000 − 100,000.
 // Then 57,000 − 43,000 = 14,000 is too little for a cent: R = 0, and all of it remains.
-fn electric(tally: Tally) -> Tally {
-    let book = electric_postings::to_first_november(tiny_period(electric_postings::fresh()));
-    let first = electric_postings::settle(book, 600, 1);
-    let tally = first_period(tally, first.book);
-    let book = electric_postings::past_february(first.book);
-    let book = electric_postings::two_months(tiny_period(book));
-    let second = electric_postings::settle(book, 600, 1);
-    second_period(tally, second.book)
+// The first period's cent is in run 1 by then, so both periods' share is one cent: 100,000 + 14,000 = 95 × (600 + 600).
+fn electric(tally: &mut Tally) -> Result<(), Refusal> {
+    let november = tiny_period(histories::fresh_electric()?)?.to_first_november()?;
+    let first = november.settle(600, 1)?;
+    let what = "Rounding, electric, first period's share";
+    period(tally, what, first.book, "0.01", "-43000");
+    let may = tiny_period(first.book.past_february()?)?.months(2)?;
+    let second = may.settle(600, 1)?;
+    let what = "Rounding, electric, second period's share";
+    period(tally, what, second.book, "0.00", "14000");
+    tally.fact(
+        "Rounding, electric, first period's share in its run",
+        second.book.secondary.first.due,
+        "0.01",
+    );
+    Ok(())
 }
 
-fn first_period(tally: Tally, book: ElectricBook) -> Tally {
-    let tally = report::cents(
-        tally,
-        b"Rounding, electric, first period's share",
-        book.secondary.pending.due,
-        b"0.01",
-    );
-    report::number(
-        tally,
-        b"Rounding, electric, remainder after it",
+fn period(tally: &mut Tally, what: &str, book: ElectricBook, share: &str, remainder: &str) {
+    tally.fact(what, book.secondary.pending.due, share);
+    tally.fact(
+        "Rounding, electric, remainder after it",
         book.period.remainder.0,
-        -43_000,
-    )
+        remainder,
+    );
 }
 
-// The first period's cent is in run 1 by now, so both periods' share is one cent: 100,000 + 14,000 = 95 × (600 + 600).
-fn second_period(tally: Tally, book: ElectricBook) -> Tally {
-    let tally = report::cents(
-        tally,
-        b"Rounding, electric, second period's share",
-        book.secondary.pending.due,
-        b"0.00",
-    );
-    let tally = report::number(
-        tally,
-        b"Rounding, electric, remainder after it",
-        book.period.remainder.0,
-        14_000,
-    );
-    report::cents(
-        tally,
-        b"Rounding, electric, first period's share in its run",
-        book.secondary.first.due,
-        b"0.01",
-    )
-}
-
-fn tiny_quarter(book: SteamBook) -> SteamBook {
-    steam_postings::sales(steam_postings::cost(book, 301), 1)
+fn tiny_quarter(book: SteamBook) -> Result<SteamBook, Refusal> {
+    book.cost(301)?.sales(1)?.to_last_month()
 }
 
 // V = 100 × 301 − 30,050 × 1 = 50 and 80V = 4,000, too little for a cent: first R = 0 and rem = 4,000.
-// Then 4,000 + 4,000 = 8,000: R = 1 and rem = 8,000 − 10,000.
-fn steam(tally: Tally) -> Tally {
-    let book = steam_postings::to_last_month(tiny_quarter(steam_postings::fresh(1)));
-    let first = steam_postings::settle(book);
-    let tally = first_quarter(tally, first.book);
-    let book = steam_postings::month(first.book);
-    let book = steam_postings::to_last_month(tiny_quarter(book));
-    let second = steam_postings::settle(book);
-    second_quarter(tally, second.book)
+// Then 4,000 + 4,000 = 8,000: R = 1 and rem = 8,000 − 10,000, and 10,000 − 2,000 = 80 × (50 + 50).
+fn steam(tally: &mut Tally) -> Result<(), Refusal> {
+    let first = tiny_quarter(histories::fresh_steam(1)?)?.settle()?;
+    let what = "Rounding, steam, first quarter's share";
+    quarter(tally, what, first.book, "0.00", "4000");
+    let second = tiny_quarter(first.book.months(1)?)?.settle()?;
+    let what = "Rounding, steam, second quarter's share";
+    quarter(tally, what, second.book, "0.01", "-2000");
+    Ok(())
 }
 
-fn first_quarter(tally: Tally, book: SteamBook) -> Tally {
-    let tally = report::cents(
-        tally,
-        b"Rounding, steam, first quarter's share",
-        book.pending.due,
-        b"0.00",
-    );
-    report::number(
-        tally,
-        b"Rounding, steam, remainder after it",
+fn quarter(tally: &mut Tally, what: &str, book: SteamBook, share: &str, remainder: &str) {
+    tally.fact(what, book.pending.due, share);
+    tally.fact(
+        "Rounding, steam, remainder after it",
         book.period.remainder.0,
-        4_000,
-    )
-}
-
-// 10,000 − 2,000 = 80 × (50 + 50).
-fn second_quarter(tally: Tally, book: SteamBook) -> Tally {
-    let tally = report::cents(
-        tally,
-        b"Rounding, steam, second quarter's share",
-        book.pending.due,
-        b"0.01",
+        remainder,
     );
-    report::number(
-        tally,
-        b"Rounding, steam, remainder after it",
-        book.period.remainder.0,
-        -2_000,
-    )
 }

@@ -1,37 +1,30 @@
-// Two fields of one kind side by side: 1 where they differ.
-ghost use Rattle.std.specs.Prelude.{◌≡◌, [], ◌∷◌, ◌≤◌, pos};
+// Two values side by side: in how many of their fields they differ.
+ghost use Rattle.std.specs.Prelude.{◌≡◌, ◌≤◌, cond, not, count_by, length};
+ghost use Rattle.std.specs.List.{zip};
 ghost use Rattle.comparisons.specs.Differing.{differing};
-ghost use Rattle.comparisons.specs.Fields.{flag_number, run_fields};
+ghost use Rattle.comparisons.specs.Fields.{run_fields};
 
-use amounts::{Cents, Points};
 use riders::Run;
 
-pub(crate) fn in_number(one: u8, other: u8) -> u64
-    ensures { (result ≡ differing (pos one ∷ []) (pos other ∷ [])) × (result ≤ 1) }
+// Two values of one field: 1 where they differ.
+pub(crate) fn in_field<T: PartialEq + Copy>(one: T, other: T) -> u64
+    ensures { (result ≡ cond (T.eq one other) 0 1) × (result ≤ 1) }
 {
-    (one != other) as u64
+    u64::from(one != other)
 }
 
-pub(crate) fn in_flag(one: bool, other: bool) -> u64
-    ensures { (result ≡ differing (flag_number one ∷ []) (flag_number other ∷ [])) × (result ≤ 1) }
+// Two arrays, place by place.
+pub(crate) fn in_places<T: PartialEq>(one: &[T], other: &[T]) -> u64
+    ensures { (result ≡ count_by (λ pair. not (T.eq pair.0 pair.1)) (zip one.now other.now)) × (result ≤ length one.now) }
 {
-    (one != other) as u64
-}
-
-pub(crate) fn in_cents(one: Cents, other: Cents) -> u64
-    ensures { (result ≡ differing (one.0 ∷ []) (other.0 ∷ [])) × (result ≤ 1) }
-{
-    (one.0 != other.0) as u64
-}
-
-pub(crate) fn in_points(one: Points, other: Points) -> u64
-    ensures { (result ≡ differing (one.0 ∷ []) (other.0 ∷ [])) × (result ≤ 1) }
-{
-    (one.0 != other.0) as u64
+    one.iter()
+        .zip(other)
+        .filter(|(one, other)| one != other)
+        .count() as u64
 }
 
 pub(crate) fn in_run(one: Run, other: Run) -> u64
     ensures { (result ≡ differing (run_fields one) (run_fields other)) × (result ≤ 2) }
 {
-    in_points(one.factor, other.factor) + in_cents(one.due, other.due)
+    in_field(one.factor, other.factor) + in_field(one.due, other.due)
 }

@@ -1,5 +1,5 @@
 // Two books side by side: in how many of their fields they differ.
-#![tactic(auto)]
+#![tactic(auto, using(crate::proofs::Comparing::one_number))]
 
 pub mod electric_fields;
 mod fields;

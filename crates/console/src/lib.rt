@@ -1,19 +1,13 @@
 // The body that the journal programs share: reads an input, prints its journal, and says what could not be read or written.
 #![tactic(auto)]
 
-ghost use Rattle.std.specs.Prelude.{◌≡◌, ◌≤◌, ◌<◌, IsTrue, false, length, take};
+ghost use Rattle.std.specs.Prelude.{◌≡◌, ◌≤◌, ◌<◌, IsOk, OnOk, length, take};
 ghost use Rattle.std.specs.Io.KnownBytes.{Appends, Consumes, IsAtEnd};
 ghost use Rattle.amounts.specs.Text.{text_left};
 ghost use Rattle.journal.specs.Journal.{journal_of, room_of};
 
+use std::io;
 use std::io::{Read, Write};
-
-// How many bytes were read, and whether a read failed before the input's end.
-#[derive(Drop)]
-struct Input {
-    count: usize,
-    failed: bool,
-}
 
 // As many zeros as the type says, and that alone: no proof walks over a buffer's bytes.
 fn zeros<const N: usize>() -> [u8; N] {
@@ -28,77 +22,51 @@ pub fn input_buffer() -> [u8; 65537]
 }
 
 // Room enough for the journal of any input: 41 bytes for each of its bytes, and 82.
+#[tactic(auto, unfolding(journal::specs::Journal::room_of))]
 pub fn output_buffer() -> [u8; 2687058]
     ensures { length result ≡ room_of 65536 }
 {
     zeros()
 }
 
-// One read: a count of 0 without failure is the input's end.
-fn read_some<R: Read>(file: &mut R, part: &mut [u8]) -> Input
-    ensures fits { result.count ≤ length part.new }
-    ensures bytes { Consumes (R.remaining file.old) (R.remaining file.new) (take result.count part.new) }
-    ensures ends { result.failed ≡ false → result.count ≡ 0 → 0 < length part.new → IsAtEnd (R.remaining file.new) }
+// Reads until the bytes are full, the input ends or a read fails, and answers how many were read in any case. It reads no more after an
+// end: a terminal would wait for another one. It loops over `read`, since `read_exact` does not tell how many came before a failure.
+fn read_input<R: Read>(file: &mut R, bytes: &mut [u8]) -> (usize, io::Result<()>)
+    ensures fits { result.0 ≤ length bytes.new }
+    ensures bytes { Consumes (R.remaining file.old) (R.remaining file.new) (take result.0 bytes.new) }
+    ensures ends { IsOk result.1 → result.0 < length bytes.new → IsAtEnd (R.remaining file.new) }
 {
-    match file.read(part) {
-        Ok(count) => Input {
-            count,
-            failed: false,
-        },
-        Err(_) => Input {
-            count: 0,
-            failed: true,
-        },
-    }
-}
-
-// Reads until the bytes are full, the input ends or a read fails. It reads no more after an end: a terminal would wait for another one.
-fn read_input<R: Read>(file: &mut R, bytes: &mut [u8]) -> Input
-    ensures fits { result.count ≤ length bytes.new }
-    ensures bytes { Consumes (R.remaining file.old) (R.remaining file.new) (take result.count bytes.new) }
-    ensures ends { result.failed ≡ false → result.count < length bytes.new → IsAtEnd (R.remaining file.new) }
-{
-    let mut count: usize = 0;
+    let mut count = 0;
     while count < bytes.len() {
-        let some = read_some(file, &mut bytes[count..]);
-        if some.count == 0 {
-            return Input {
-                count,
-                failed: some.failed,
-            };
+        match file.read(&mut bytes[count..]) {
+            Ok(0) => return (count, Ok(())),
+            Ok(more) => count += more,
+            Err(error) => return (count, Err(error)),
         }
-        count += some.count;
     }
-    Input {
-        count,
-        failed: false,
-    }
+    (count, Ok(()))
 }
 
 // Hands over what is to be printed. Every caller shows that it is the journal of what was read, which stands here for that alone.
-fn print<W: Write>(output: &mut W, read: &[u8], printed: &[u8]) -> bool
+fn print<W: Write>(output: &mut W, read: &[u8], printed: &[u8]) -> io::Result<()>
     requires { printed.now ≡ journal_of read.now }
-    ensures { IsTrue result → Appends (W.contents output.old) (W.contents output.new) (journal_of read.now) }
+    ensures { OnOk result (Appends (W.contents output.old) (W.contents output.new) (journal_of read.now)) }
 {
-    output.write_all(printed).is_ok()
+    output.write_all(printed)
 }
 
-// Prints the journal of the first bytes by way of the text, and answers whether all of it was taken.
-fn print_journal<W: Write>(output: &mut W, bytes: &[u8], count: usize, text: &mut [u8]) -> bool
-    requires { count ≤ length bytes.now }
-    ensures left { text.new ≡ text_left (journal_of (take count bytes.now)) text.old }
-    ensures taken { IsTrue result → Appends (W.contents output.old) (W.contents output.new) (journal_of (take count bytes.now)) }
+// Prints the journal of the bytes read by way of the text.
+#[tactic(auto, unfolding(amounts::specs::Text::text_written, amounts::specs::Text::text_left, refusals::specs::Rows::by_table))]
+fn print_journal<W: Write>(output: &mut W, read: &[u8], text: &mut [u8]) -> io::Result<()>
+    ensures left { text.new ≡ text_left (journal_of read.now) text.old }
+    ensures taken { OnOk result (Appends (W.contents output.old) (W.contents output.new) (journal_of read.now)) }
 {
-    let read = &bytes[..count];
-    let written = journal::write(read, text);
-    if written.number != 0 {
-        return false;
-    }
-    let length = written.length;
+    // The kind that std's writers answer where a buffer is full.
+    let length = journal::write(read, text).map_err(|_| io::Error::from(io::ErrorKind::WriteZero))?;
     print(output, read, &text[..length])
 }
 
-// To standard error; where that fails too, nothing is left to say it to.
+// To standard error. Where a write fails the next is tried all the same, and nothing is left to say it to.
 fn say<E: Write>(errors: &mut E, program: &[u8], words: &[u8]) {
     let _ = errors.write_all(program);
     let _ = errors.write_all(words);
@@ -118,17 +86,16 @@ pub fn run<R: Read, W: Write, E: Write>(
     ensures prints { (result ≤ length bytes.new) × (text.new ≡ text_left (journal_of (take result bytes.new)) text.old) }
     ensures reads { Consumes (R.remaining file.old) (R.remaining file.new) (take result bytes.new) }
 {
-    let input = read_input(file, bytes);
-    let count = input.count;
-    let written = print_journal(output, bytes, count, text);
-    if input.failed {
+    let (count, read) = read_input(file, bytes);
+    let printed = print_journal(output, &bytes[..count], text);
+    if read.is_err() {
         say(
             errors,
             program,
             b": the input could not be read to its end\n",
         );
     }
-    if !written {
+    if printed.is_err() {
         say(errors, program, b": not all answers could be written\n");
     }
     count

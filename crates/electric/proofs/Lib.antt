@@ -2,4 +2,3 @@
 pub mod Parts
 pub mod Bills
 pub mod Settling
-pub mod ByKind

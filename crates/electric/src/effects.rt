@@ -1,153 +1,160 @@
 // What a posting does that no row has refused so far, one call a kind: the answer and the next book, whose limits are still to be tested.
-ghost use Rattle.std.specs.Prelude.{◌≡◌, false};
-ghost use Rattle.postings.specs.Kinds.{cost, sales, bill, settle, month_end, adjust, kind_of, unknown_kind};
+ghost use Rattle.std.specs.Prelude.{◌≡◌};
 ghost use Rattle.postings.specs.Ranged.{Ranged};
 ghost use Rattle.riders.specs.Posts.{StoredAs};
-ghost use Rattle.electric_rules.specs.Next.{cost_added, sales_added};
-ghost use Rattle.electric_rules.specs.Ranges.{PeriodWithin, BookWithin};
+ghost use Rattle.electric_rules.specs.Next.{level_at};
+ghost use Rattle.electric_rules.specs.Ranges.{BookWithin};
 ghost use Rattle.electric.specs.Stored.{effect_at, fits};
 
+use crate::levels::LevelInLimits;
 use amounts::Cents;
-use electric_rules::{ElectricBook, Kwh, Period, Posted, Sales};
-use postings::{Answer, Book, Posting};
+use electric_rules::{ElectricBook, Kwh, Period, Sales};
+use postings::kinds::Kind;
+use postings::{Answer, Book, Posted, Posting};
 
-fn cost_added(period: Period, posting: Posting) -> Period
-    requires { PeriodWithin period × Ranged Book.Electric cost posting }
-    ensures { result ≡ cost_added period posting }
-{
-    let cost = Cents(period.cost.0 + (posting.first + posting.second + posting.third));
-    let mut next = period;
-    next.cost = cost;
-    next
+// A posting with the book that it is posted to, which is within its limits.
+#[derive(Clone, Copy)]
+pub(crate) struct Accepted {
+    pub(crate) book: ElectricBook,
+    pub(crate) posting: Posting,
+    ghost book_within: { BookWithin book },
 }
 
-fn post_cost(book: ElectricBook, posting: Posting) -> Posted
-    requires { BookWithin book × Ranged Book.Electric cost posting }
-    ensures { result ≡ effect_at cost book posting }
-{
-    let mut next = book;
-    next.period = cost_added(book.period, posting);
-    Posted {
-        answer: Answer::Done,
-        book: next,
-    }
-}
-
-fn sales_added(period: Period, posting: Posting) -> Period
-    requires { PeriodWithin period × Ranged Book.Electric sales posting }
-    ensures { result ≡ sales_added period posting }
-{
-    let sales = Sales {
-        secondary: Kwh(period.sales.secondary.0 + posting.first),
-        primary: Kwh(period.sales.primary.0 + posting.second),
-    };
-    let mut next = period;
-    next.sales = sales;
-    next
-}
-
-fn post_sales(book: ElectricBook, posting: Posting) -> Posted
-    requires { BookWithin book × Ranged Book.Electric sales posting }
-    ensures { result ≡ effect_at sales book posting }
-{
-    let mut next = book;
-    next.period = sales_added(book.period, posting);
-    Posted {
-        answer: Answer::Done,
-        book: next,
-    }
-}
-
-fn post_bill(book: ElectricBook, posting: Posting) -> Posted
-    requires { BookWithin book × Ranged Book.Electric bill posting }
-    ensures { result ≡ effect_at bill book posting }
-{
-    let mut next = book;
-    if posting.first == 0 {
-        let line = crate::levels::line(book.secondary, posting);
-        next.secondary = crate::levels::billed(book.secondary, posting, line);
-        return Posted {
-            answer: Answer::Line(line),
-            book: next,
+impl Accepted {
+    fn cost(self) -> Posted<ElectricBook>
+        requires { Ranged Book.Electric Kind.Cost self.posting }
+        ensures { result ≡ effect_at Kind.Cost self.book self.posting }
+    {
+        let Accepted { book, posting, .. } = self;
+        let cost = Cents(book.period.cost.0 + (posting.first + posting.second + posting.third));
+        let period = Period {
+            cost,
+            ..book.period
         };
+        Posted {
+            answer: Answer::Done,
+            book: ElectricBook { period, ..book },
+        }
     }
-    let line = crate::levels::line(book.primary, posting);
-    next.primary = crate::levels::billed(book.primary, posting, line);
-    Posted {
-        answer: Answer::Line(line),
-        book: next,
-    }
-}
 
-fn post_adjustment(book: ElectricBook, posting: Posting) -> Posted
-    requires { BookWithin book × Ranged Book.Electric adjust posting }
-    ensures { result ≡ effect_at adjust book posting }
-{
-    let mut next = book;
-    if posting.first == 0 {
-        next.secondary = crate::levels::adjusted(book.secondary, posting);
-    } else {
-        next.primary = crate::levels::adjusted(book.primary, posting);
+    fn sales(self) -> Posted<ElectricBook>
+        requires { Ranged Book.Electric Kind.Sales self.posting }
+        ensures { result ≡ effect_at Kind.Sales self.book self.posting }
+    {
+        let Accepted { book, posting, .. } = self;
+        let sales = Sales {
+            secondary: Kwh(book.period.sales.secondary.0 + posting.first),
+            primary: Kwh(book.period.sales.primary.0 + posting.second),
+        };
+        let period = Period {
+            sales,
+            ..book.period
+        };
+        Posted {
+            answer: Answer::Done,
+            book: ElectricBook { period, ..book },
+        }
     }
-    Posted {
-        answer: Answer::Done,
-        book: next,
-    }
-}
 
-fn post_month_end(book: ElectricBook, posting: Posting) -> Posted
-    requires { BookWithin book × Ranged Book.Electric month_end posting }
-    ensures { result ≡ effect_at month_end book posting }
-{
-    let secondary = crate::levels::interest(book.secondary, posting);
-    let primary = crate::levels::interest(book.primary, posting);
-    let run = electric_refusals::calendar::entering(book.month);
-    let mut next = book;
-    next.month = riders::months::month_after(book.month);
-    next.settled = false;
-    next.secondary = crate::levels::ended(book.secondary, posting, secondary, run);
-    next.primary = crate::levels::ended(book.primary, posting, primary, run);
-    Posted {
-        answer: Answer::Interest(secondary, primary),
-        book: next,
+    // The level that a bill or an adjustment names.
+    fn level(self) -> LevelInLimits
+        ensures { result.level ≡ level_at self.posting.first self.book }
+    {
+        LevelInLimits {
+            level: self.book.level(self.posting.first),
+        }
     }
-}
 
-// A run that no book may store is filed as another such, so the book is stored or refused as the rules' own would be.
-fn post_settlement(book: ElectricBook, posting: Posting) -> Posted
-    requires { BookWithin book × Ranged Book.Electric settle posting }
-    ensures { StoredAs fits result (effect_at settle book posting) }
-{
-    let rates = electric_settlement::rates_of(book.division);
-    let shares = electric_settlement::shares_of(rates, book.period);
-    let on_secondary = crate::filing::filing_of(
-        shares.secondary,
-        book.secondary,
-        Kwh(posting.first),
-    );
-    let on_primary = crate::filing::filing_of(shares.primary, book.primary, Kwh(posting.second));
-    let secondary = crate::filing::filed_level(on_secondary, book.secondary);
-    let primary = crate::filing::filed_level(on_primary, book.primary);
-    let next = crate::filing::settled_with(book, shares.remainder, secondary, primary);
-    let secondary_factor = on_secondary.factor;
-    let primary_factor = on_primary.factor;
-    Posted {
-        answer: Answer::FiledLevels(secondary_factor, primary_factor),
-        book: next,
+    fn bill(self) -> Posted<ElectricBook>
+        requires { Ranged Book.Electric Kind.Bill self.posting }
+        ensures { result ≡ effect_at Kind.Bill self.book self.posting }
+    {
+        let (line, billed) = self.level().billed(self.posting);
+        Posted {
+            answer: Answer::Line(line),
+            book: self.book.with_level(self.posting.first, billed),
+        }
     }
-}
 
-pub(crate) fn effect(book: ElectricBook, posting: Posting) -> Posted
-    requires { BookWithin book × Ranged Book.Electric (kind_of posting.kind) posting × (unknown_kind Book.Electric posting.kind ≡ false) }
-    ensures { StoredAs fits result (effect_at (kind_of posting.kind) book posting) }
-{
-    let kind = posting.kind;
-    match kind {
-        1 => post_cost(book, posting),
-        2 => post_sales(book, posting),
-        3 => post_bill(book, posting),
-        4 => post_settlement(book, posting),
-        5 => post_month_end(book, posting),
-        _ => post_adjustment(book, posting),
+    fn adjustment(self) -> Posted<ElectricBook>
+        requires { Ranged Book.Electric Kind.Adjust self.posting }
+        ensures { result ≡ effect_at Kind.Adjust self.book self.posting }
+    {
+        let adjusted = self.level().adjusted(self.posting);
+        Posted {
+            answer: Answer::Done,
+            book: self.book.with_level(self.posting.first, adjusted),
+        }
+    }
+
+    fn month_end(self) -> Posted<ElectricBook>
+        requires { Ranged Book.Electric Kind.MonthEnd self.posting }
+        ensures { result ≡ effect_at Kind.MonthEnd self.book self.posting }
+    {
+        let Accepted { book, posting, .. } = self;
+        let entering = electric_refusals::calendar::entering(book.month);
+        let on_secondary = LevelInLimits {
+            level: book.secondary,
+        };
+        let on_primary = LevelInLimits {
+            level: book.primary,
+        };
+        let (secondary_interest, secondary) = on_secondary.ended(posting, entering);
+        let (primary_interest, primary) = on_primary.ended(posting, entering);
+        Posted {
+            answer: Answer::Interest(secondary_interest, primary_interest),
+            book: ElectricBook {
+                month: riders::months::month_after(book.month),
+                settled: false,
+                secondary,
+                primary,
+                ..book
+            },
+        }
+    }
+
+    // A run that no book may store is filed as another such, so the book is stored or refused as the rules' own would be.
+    fn settlement(self) -> Posted<ElectricBook>
+        requires { Ranged Book.Electric Kind.Settle self.posting }
+        ensures { StoredAs fits result (effect_at Kind.Settle self.book self.posting) }
+    {
+        let Accepted { book, posting, .. } = self;
+        let rates = electric_settlement::rates_of(book.division);
+        let shares = electric_settlement::shares_of(rates, book.period);
+        let on_secondary = LevelInLimits {
+            level: book.secondary,
+        };
+        let on_primary = LevelInLimits {
+            level: book.primary,
+        };
+        let secondary = on_secondary.filing_of(shares.secondary, Kwh(posting.first));
+        let primary = on_primary.filing_of(shares.primary, Kwh(posting.second));
+        Posted {
+            answer: Answer::FiledLevels(secondary.factor, primary.factor),
+            book: crate::filing::settled_with(
+                book,
+                shares.remainder,
+                crate::filing::filed_level(secondary, book.secondary),
+                crate::filing::filed_level(primary, book.primary),
+            ),
+        }
+    }
+
+    pub(crate) fn effect(self, kind: Kind) -> Posted<ElectricBook>
+        requires { Ranged Book.Electric kind self.posting }
+        ensures { StoredAs fits result (effect_at kind self.book self.posting) }
+    {
+        match kind {
+            Kind::Cost => self.cost(),
+            Kind::Sales => self.sales(),
+            Kind::Bill => self.bill(),
+            Kind::Settle => self.settlement(),
+            Kind::MonthEnd => self.month_end(),
+            Kind::Adjust => self.adjustment(),
+            Kind::Reconcile | Kind::Unknown => Posted {
+                answer: Answer::Done,
+                book: self.book,
+            },
+        }
     }
 }

@@ -1,50 +1,101 @@
-// What bill, adjust and month end make of a level.
-ghost use Rattle.std.specs.Prelude.{◌≡◌};
+// A level within its limits, and what bill, adjust, settle and month end make of it.
+ghost use Rattle.std.specs.Prelude.{◌≡◌, pos};
 ghost use Rattle.ints.specs.Range.{Within};
+ghost use Rattle.rounding.specs.Round.{round};
 ghost use Rattle.amounts.specs.Amounts.{cents};
-ghost use Rattle.postings.specs.Kinds.{bill, month_end, adjust};
 ghost use Rattle.postings.specs.Ranged.{Ranged};
-ghost use Rattle.riders.specs.Lines.{part_of};
-ghost use Rattle.riders.specs.Runs.{due_less, RunWithin};
-ghost use Rattle.electric_rules.specs.Levels.{factors_of, level_line, billed_level, adjusted_level, bearing_of, interest_on, accrued_level, handed_over};
+ghost use Rattle.riders.specs.Runs.{due_less, filed_run, RunWithin};
+ghost use Rattle.electric_rules.specs.Levels.{level_line, billed_level, adjusted_level, owed_by, bearing_of, interest_on, accrued_level, handed_over};
 ghost use Rattle.electric_rules.specs.Ranges.{LevelWithin};
 
 use amounts::{Cents, Points};
-use electric_rules::Level;
+use electric_rules::{EnteringRun, Kwh, Level};
+use postings::kinds::Kind;
 use postings::{Book, Posting};
 use riders::Run;
 
 // Millionths of a year's rate to a month's.
 const MONTHLY: i64 = 12_000_000;
 
-// A bill's line.
-pub(crate) fn line(level: Level, posting: Posting) -> Cents
-    requires { LevelWithin level × Ranged Book.Electric bill posting }
-    ensures { result ≡ cents (level_line posting.second level) }
-{
-    Cents(rounding::round_div(
-        posting.second * (level.first.factor.0 as i64 + level.second.factor.0 as i64),
-        Points::TO_A_CENT,
-    ))
+#[derive(Clone, Copy)]
+pub(crate) struct LevelInLimits {
+    pub(crate) level: Level,
+    ghost within: { LevelWithin level },
 }
 
-// Run 1's part of it.
-fn first_part(level: Level, posting: Posting) -> Cents
-    requires { LevelWithin level × Ranged Book.Electric bill posting }
-    ensures { result ≡ cents (part_of posting.second (factors_of level) 0) }
-{
-    Cents(rounding::round_div(
-        posting.second * (level.first.factor.0 as i64),
-        Points::TO_A_CENT,
-    ))
+impl LevelInLimits {
+    // A bill's line, and the level with each run's part of it taken from its due cents: run 2's part is the line less run 1's.
+    pub(crate) fn billed(self, posting: Posting) -> (Cents, Level)
+        requires { Ranged Book.Electric Kind.Bill posting }
+        ensures { result ≡ (cents (level_line posting.second self.level), billed_level posting.second self.level) }
+    {
+        let level = self.level;
+        let both = level.first.factor.0 as i64 + level.second.factor.0 as i64;
+        let line = to_cents(posting.second * both);
+        let first = to_cents(posting.second * (level.first.factor.0 as i64));
+        let second = Cents(line.0 - first.0);
+        (
+            line,
+            Level {
+                first: due_less(first, level.first),
+                second: due_less(second, level.second),
+                ..level
+            },
+        )
+    }
+
+    // The amount joins the carried cents.
+    pub(crate) fn adjusted(self, posting: Posting) -> Level
+        requires { Ranged Book.Electric Kind.Adjust posting }
+        ensures { result ≡ adjusted_level posting.second self.level }
+    {
+        Level {
+            carried: Cents(self.level.carried.0 + posting.second),
+            ..self.level
+        }
+    }
+
+    // What the level owes, with the factor that is to bring it in over the estimated sales.
+    pub(crate) fn filing_of(self, share: Cents, estimate: Kwh) -> Run
+        requires { Within 20000000000000 share.0 }
+        ensures { result ≡ filed_run (owed_by share.0 self.level) estimate.0 }
+    {
+        let owed = Cents(share.0 + self.level.carried.0 + self.level.interest.0);
+        Run::filed(owed, estimate.0)
+    }
+
+    // A month's interest on the balance that bears it.
+    fn interest(self, posting: Posting) -> Cents
+        requires { Ranged Book.Electric Kind.MonthEnd posting }
+        ensures { result ≡ cents (interest_on posting.first (bearing_of self.level)) }
+    {
+        let level = self.level;
+        let balance = level.carried.0
+            + level.pending.due.0
+            + level.first.due.0
+            + level.second.due.0;
+        Cents(rounding::round_div(posting.first * balance, MONTHLY))
+    }
+
+    // A month's interest, and the level at the month's end: that interest accrued, then the handover.
+    pub(crate) fn ended(self, posting: Posting, entering: Option<EnteringRun>) -> (Cents, Level)
+        requires { Ranged Book.Electric Kind.MonthEnd posting }
+        ensures { result ≡ (cents (interest_on posting.first (bearing_of self.level)), handed_over entering (accrued_level posting.first self.level)) }
+    {
+        let interest = self.interest(posting);
+        let accrued = Level {
+            interest: Cents(self.level.interest.0 + interest.0),
+            ..self.level
+        };
+        (interest, handed_over(entering, accrued))
+    }
 }
 
-// Run 2's: the line less that.
-fn second_part(level: Level, posting: Posting, line: Cents, first: Cents) -> Cents
-    requires { LevelWithin level × Ranged Book.Electric bill posting × (line ≡ cents (level_line posting.second level)) × (first ≡ cents (part_of posting.second (factors_of level) 0)) }
-    ensures { result ≡ cents (part_of posting.second (factors_of level) 1) }
+// So many points, times kWh, in whole cents.
+fn to_cents(points: i64) -> Cents
+    ensures { result ≡ cents (round points (pos 100)) }
 {
-    Cents(line.0 - first.0)
+    Cents(rounding::round_div(points, Points::TO_A_CENT))
 }
 
 // The due cents fall by the part.
@@ -53,91 +104,27 @@ fn due_less(part: Cents, run: Run) -> Run
     ensures { result ≡ due_less part.0 run }
 {
     let due = Cents(run.due.0 - part.0);
-    let mut next = run;
-    next.due = due;
-    next
+    Run { due, ..run }
 }
 
-// Each run's due cents fall by its part of the line.
-pub(crate) fn billed(level: Level, posting: Posting, line: Cents) -> Level
-    requires { LevelWithin level × Ranged Book.Electric bill posting × (line ≡ cents (level_line posting.second level)) }
-    ensures { result ≡ billed_level posting.second level }
-{
-    let first = first_part(level, posting);
-    let second = second_part(level, posting, line, first);
-    let mut next = level;
-    next.first = due_less(first, level.first);
-    next.second = due_less(second, level.second);
-    next
-}
-
-// The amount joins the carried cents.
-pub(crate) fn adjusted(level: Level, posting: Posting) -> Level
-    requires { LevelWithin level × Ranged Book.Electric adjust posting }
-    ensures { result ≡ adjusted_level posting.second level }
-{
-    let carried = Cents(level.carried.0 + posting.second);
-    let mut next = level;
-    next.carried = carried;
-    next
-}
-
-// The balance that bears interest.
-fn bearing(level: Level) -> Cents
-    requires { LevelWithin level }
-    ensures { result ≡ cents (bearing_of level) }
-{
-    Cents(level.carried.0 + level.pending.due.0 + level.first.due.0 + level.second.due.0)
-}
-
-// A month's interest on it.
-pub(crate) fn interest(level: Level, posting: Posting) -> Cents
-    requires { LevelWithin level × Ranged Book.Electric month_end posting }
-    ensures { result ≡ cents (interest_on posting.first (bearing_of level)) }
-{
-    let balance = bearing(level);
-    Cents(rounding::round_div(posting.first * balance.0, MONTHLY))
-}
-
-// The level with that interest accrued.
-fn accrued(level: Level, posting: Posting, interest: Cents) -> Level
-    requires { LevelWithin level × Ranged Book.Electric month_end posting × (interest ≡ cents (interest_on posting.first (bearing_of level))) }
-    ensures { result ≡ accrued_level posting.first level }
-{
-    let accrued = Cents(level.interest.0 + interest.0);
-    let mut next = level;
-    next.interest = accrued;
-    next
-}
-
-// The run that enters, 1 or 2, adds its due cents to the carried ones and becomes the pending run.
-fn handed_over(entering: u8, level: Level) -> Level
+// The run that enters, if one does, adds its due cents to the carried ones and becomes the pending run.
+fn handed_over(entering: Option<EnteringRun>, level: Level) -> Level
     requires { Within 1000000000000 level.carried.0 × RunWithin level.first × RunWithin level.second }
     ensures { result ≡ handed_over entering level }
 {
-    let pending = level.pending;
-    let mut next = level;
-    if entering == 1 {
-        let carried = Cents(level.carried.0 + level.first.due.0);
-        next.carried = carried;
-        next.pending = Run::none();
-        next.first = pending;
-        return next;
+    match entering {
+        None => level,
+        Some(EnteringRun::First) => Level {
+            carried: Cents(level.carried.0 + level.first.due.0),
+            pending: Run::none(),
+            first: level.pending,
+            ..level
+        },
+        Some(EnteringRun::Second) => Level {
+            carried: Cents(level.carried.0 + level.second.due.0),
+            pending: Run::none(),
+            second: level.pending,
+            ..level
+        },
     }
-    if entering == 2 {
-        let carried = Cents(level.carried.0 + level.second.due.0);
-        next.carried = carried;
-        next.pending = Run::none();
-        next.second = pending;
-        return next;
-    }
-    next
-}
-
-// A level at a month's end: interest, then the handover.
-pub(crate) fn ended(level: Level, posting: Posting, interest: Cents, entering: u8) -> Level
-    requires { LevelWithin level × Ranged Book.Electric month_end posting × (interest ≡ cents (interest_on posting.first (bearing_of level))) }
-    ensures { result ≡ handed_over entering (accrued_level posting.first level) }
-{
-    handed_over(entering, accrued(level, posting, interest))
 }

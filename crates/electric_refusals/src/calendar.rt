@@ -2,6 +2,8 @@
 ghost use Rattle.std.specs.Prelude.{◌≡◌};
 ghost use Rattle.electric_rules.specs.Calendar.{settles, entering};
 
+use electric_rules::EnteringRun;
+
 // Whether the month settles: November and May do.
 pub fn settles(month: u8) -> bool
     ensures { result ≡ settles month }
@@ -9,15 +11,13 @@ pub fn settles(month: u8) -> bool
     (month == 11) | (month == 5)
 }
 
-// The run that pending enters at the month's end: 1, 2, or 0 for none.
-pub fn entering(month: u8) -> u8
+// The run that pending enters at the month's end, if it enters one.
+pub fn entering(month: u8) -> Option<EnteringRun>
     ensures { result ≡ entering month }
 {
-    if month == 2 {
-        return 1;
+    match month {
+        2 => Some(EnteringRun::First),
+        8 => Some(EnteringRun::Second),
+        _ => None,
     }
-    if month == 8 {
-        return 2;
-    }
-    0
 }

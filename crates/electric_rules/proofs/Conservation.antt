@@ -1,37 +1,40 @@
 -- No cent is lost: what book and tally share is so of a fresh book, each posting keeps it, and so does a list of them; the claim follows
 -- from it. Assumes nothing.
-use mathlib.Core.Path.{◌≡◌, refl, sym, ap, subst, ◌∙◌}
+use mathlib.Core.Path.{◌≡◌, refl, sym, ap, subst}
 use mathlib.Core.Bool.{Bool, true, false, cond, not, true≢false}
 use Prim.Native.Nat.{ℕ}
 use lib.Dec.{leb, eqb}
 use lib.IntN.{ℤ, pos, ◌+ℤ◌, ◌-ℤ◌, ◌*ℤ◌}
 use borrow.Author.Tests.{not-false}
+use Rattle.std.specs.Prelude.{is_none, Result, Ok, Err, is_ok}
+use Rattle.std.specs.Result.{result_unwrap_or}
 use Rattle.ints.specs.Flags.{both}
 use Rattle.ints.specs.Range.{Within}
+use Rattle.refusals.specs.declared.Refusal.{Refusal}
 use Rattle.refusals.proofs.TableLaws.{by_table_lem}
-use Rattle.postings.specs.Kinds.{Kind, cost, sales, bill, settle, month_end, adjust, reconcile, unknown, kind_of, table_of, is_none, unknown_kind}
+use Rattle.postings.specs.Kinds.{kind_of, table_of, unknown_kind}
+use Rattle.postings.specs.declared.kinds.Kind.{Kind}
+use Rattle.postings.specs.declared.kinds.Kind.TheVariants.{Cost, Sales, Bill, Settle, MonthEnd, Adjust, Reconcile, Unknown}
 use Rattle.postings.specs.declared.Book.TheVariants.{Electric}
 use Rattle.postings.specs.declared.Posting.{Posting}
 use Rattle.postings.specs.declared.Answer.{Answer}
-use Rattle.postings.specs.declared.Answer.TheVariants.{Done}
 use Rattle.riders.specs.Months.{month_in_limits, forbidden}
 use Rattle.riders.specs.Rules.{left_by, answered_by, by_rules}
-use Rattle.riders.specs.Histories.{was_accepted, line_answered, entry_of, kept_after}
+use Rattle.riders.specs.Histories.{line_answered, entry_of, kept_after}
 use Rattle.electric_rules.proofs.Waiting.{clear, settle_clear, month_turns}
 use Rattle.electric_rules.proofs.Shares.{Shared, settled_shared}
 use Rattle.electric_rules.proofs.LevelSteps.{LevelKept, billed_keeps, adjusted_keeps, settled_keeps, ended_keeps}
 use Rattle.electric_rules.specs.declared.Rates.{Rates}
 use Rattle.electric_rules.specs.declared.Period.{Period}
-use Rattle.electric_rules.specs.declared.Sales.{Sales}
+use Rattle.electric_rules.specs.declared.Sales.{Sales as OpenSales}
 use Rattle.electric_rules.specs.declared.Level.{Level}
 use Rattle.electric_rules.specs.declared.ElectricBook.{ElectricBook}
-use Rattle.electric_rules.specs.declared.Posted.{Posted}
-use Rattle.electric_rules.specs.Book.{sales_of, period_of, posted, refused, fresh_level, fresh_of, opened_of}
+use Rattle.electric_rules.specs.Book.{sales_of, period_of, fresh_level, fresh_of, opening_rows, opened_of}
 use Rattle.electric_rules.specs.Calendar.{settles, entering}
 use Rattle.electric_rules.specs.Rates.{rates_lp, rates_mps, rates_of}
 use Rattle.electric_rules.specs.Settlement.{remainder_after, secondary_share, primary_share}
 use Rattle.electric_rules.specs.Levels.{held_by}
-use Rattle.electric_rules.specs.Next.{with_period, with_levels, is_secondary, cost_posted, sales_posted, bill_posted, settle_posted, month_ended, adjust_posted, next_at, line_answer, filed_answer, interest_answer, answer_at}
+use Rattle.electric_rules.specs.Next.{with_period, with_levels, is_secondary, cost_posted, sales_posted, next_at, answer_at}
 use Rattle.electric_rules.specs.Limits.{dates_in_limits, in_limits}
 use Rattle.electric_rules.specs.Refusals.{rules}
 use Rattle.electric_rules.specs.Tally.{LevelTally, Tally, fresh_level_tally, fresh_tally, with_period_tally, with_level_tallies, cost_counted, sales_counted, line_counted, share_counted, settle_counted, interest_counted, adjustment_counted, count_at, count_of}
@@ -54,13 +57,13 @@ record Kept (rates : Rates) (b : ElectricBook) (t : Tally) : Type 0 where
 -- ---- an accepted posting, by kind
 
 module _ (rates : Rates) (b : ElectricBook) (t : Tally) (p : Posting) (k : Kept rates b t) where
-  -- the tally takes from an answer that it was accepted, and the line
+  -- the tally takes the line from an answer
   abbrev Keeps : Kind → Type 0
-  Keeps kind = Kept rates (next_at kind b p) (cond (was_accepted (answer_at kind b p)) (count_at kind rates t p (line_answered kind (answer_at kind b p))) t)
+  Keeps kind = Kept rates (next_at kind b p) (count_at kind rates t p (line_answered kind (Ok (answer_at kind b p))))
 
   -- cost and sales change the period alone, and not its remainder
   period_keeps :
-      (cost_after : Period → ℤ) (sales_after : Period → Sales) →
+      (cost_after : Period → ℤ) (sales_after : Period → OpenSales) →
       Kept rates (with_period b (period_of (cost_after b.period) (sales_after b.period) b.period.remainder.0))
       (with_period_tally t (period_of (cost_after t.period) (sales_after t.period) t.period.remainder.0))
   period_keeps cost_after sales_after =
@@ -72,12 +75,12 @@ module _ (rates : Rates) (b : ElectricBook) (t : Tally) (p : Posting) (k : Kept 
         shares = k.shares;
       }
 
-  cost_keeps : Keeps cost
-  unfolding next_at answer_at count_at cost_posted cost_counted
+  cost_keeps : Keeps Cost
+  unfolding cost_counted
   cost_keeps = period_keeps (λ q. (cost_posted (with_period b q) p).period.cost.0) (λ q. q.sales)
 
-  sales_keeps : Keeps sales
-  unfolding next_at answer_at count_at sales_posted sales_counted
+  sales_keeps : Keeps Sales
+  unfolding sales_counted
   sales_keeps = period_keeps (λ q. q.cost.0) (λ q. (sales_posted (with_period b q) p).period.sales)
 
   -- bill and adjust change the level that they name alone, and not its shares
@@ -104,16 +107,16 @@ module _ (rates : Rates) (b : ElectricBook) (t : Tally) (p : Posting) (k : Kept 
   level_kept true = k.secondary
   level_kept false = k.primary
 
-  bill_keeps : Keeps bill
-  unfolding next_at answer_at count_at bill_posted line_answer line_counted
+  bill_keeps : Keeps Bill
+  unfolding line_counted
   bill_keeps = one_level (is_secondary p.first) _ _ refl (billed_keeps _ _ (level_kept (is_secondary p.first)) p.second)
 
-  adjust_keeps : Keeps adjust
-  unfolding next_at answer_at count_at adjust_posted adjustment_counted
+  adjust_keeps : Keeps Adjust
+  unfolding adjustment_counted
   adjust_keeps = one_level (is_secondary p.first) _ _ refl (adjusted_keeps _ _ (level_kept (is_secondary p.first)) p.second)
 
-  settle_keeps : forbidden settle (settles b.month) b.settled ≡ false → Keeps settle
-  unfolding next_at answer_at count_at settle_posted filed_answer settle_counted share_counted waiting.clear
+  settle_keeps : forbidden Settle (settles b.month) b.settled ≡ false → Keeps Settle
+  unfolding settle_counted share_counted waiting.clear
   settle_keeps allowed =
       let nothing = settle_clear b.month b.settled allowed in
       record {
@@ -125,11 +128,10 @@ module _ (rates : Rates) (b : ElectricBook) (t : Tally) (p : Posting) (k : Kept 
       }
 
   dates : not (in_limits b) ≡ false → month_in_limits b.month (settles b.month) b.settled ≡ true
-  unfolding in_limits dates_in_limits
   dates e = (both (leb b.division 1) _ (both (dates_in_limits b) _ (not-false _ e)).0).1
 
-  month_keeps : not (in_limits b) ≡ false → forbidden month_end (settles b.month) b.settled ≡ false → Keeps month_end
-  unfolding next_at answer_at count_at month_ended interest_answer interest_counted
+  month_keeps : not (in_limits b) ≡ false → forbidden MonthEnd (settles b.month) b.settled ≡ false → Keeps MonthEnd
+  unfolding interest_counted
   month_keeps limits allowed =
       let turn = month_turns b.month b.settled (dates limits) allowed in
       record {
@@ -141,23 +143,23 @@ module _ (rates : Rates) (b : ElectricBook) (t : Tally) (p : Posting) (k : Kept 
       }
 
   kind_keeps : (kind : Kind) → is_none (table_of Electric kind) ≡ false → not (in_limits b) ≡ false → forbidden kind (settles b.month) b.settled ≡ false → Keeps kind
-  kind_keeps cost known limits allowed = cost_keeps
-  kind_keeps sales known limits allowed = sales_keeps
-  kind_keeps bill known limits allowed = bill_keeps
-  kind_keeps settle known limits allowed = settle_keeps allowed
-  kind_keeps month_end known limits allowed = month_keeps limits allowed
-  kind_keeps adjust known limits allowed = adjust_keeps
-  kind_keeps reconcile known limits allowed = absurd (true≢false known)
-  kind_keeps unknown known limits allowed = absurd (true≢false known)
+  kind_keeps Cost known limits allowed = cost_keeps
+  kind_keeps Sales known limits allowed = sales_keeps
+  kind_keeps Bill known limits allowed = bill_keeps
+  kind_keeps Settle known limits allowed = settle_keeps allowed
+  kind_keeps MonthEnd known limits allowed = month_keeps limits allowed
+  kind_keeps Adjust known limits allowed = adjust_keeps
+  kind_keeps Reconcile known limits allowed = absurd (true≢false known)
+  kind_keeps Unknown known limits allowed = absurd (true≢false known)
 
 -- ---- a posting, accepted or refused
 
 posting_keeps : (rates : Rates) (b : ElectricBook) (t : Tally) (p : Posting) → Kept rates b t → Kept rates (left_by rules b p) (count_of rates t (entry_of p (answered_by rules b p)))
 unfolding count_of unknown_kind
 posting_keeps rates b t p k =
-    by_rules rules (λ (next : ElectricBook) (answer : Answer). Kept rates next (count_of rates t (entry_of p answer))) b p tt
+    by_rules rules (λ (next : ElectricBook) (answer : Result Answer Refusal). Kept rates next (count_of rates t (entry_of p answer))) b p
     (λ none. kind_keeps rates b t p k (kind_of p.kind) none.0 none.1.1.0 none.1.1.1.1.0)
-    (λ n refused. simp refused k)
+    (λ refusal. k)
 
 -- ---- a list of postings to an opened book
 
@@ -173,16 +175,15 @@ fresh_kept division =
       shares = sharing.none_shared 50000 (rates_of division).percentage;
     }
 
-opened_kept : (division : ℕ) → (opened_of division).answer ≡ Done → Kept (rates_of division) (opened_of division).book fresh_tally
+opened_kept : (division : ℕ) (fresh : ElectricBook) → opened_of division ≡ Ok fresh → Kept (rates_of division) fresh fresh_tally
 unfolding opened_of
-opened_kept division =
-    by_table_lem (λ (r : Posted). r.answer ≡ Done → Kept (rates_of division) r.book fresh_tally) _ (posted Done (fresh_of division)) (refused (fresh_of 0)) tt
-    (λ none done. fresh_kept division)
-    (λ n refuses done. absurd (true≢false (sym (ap was_accepted done) ∙ refuses)))
+opened_kept division fresh =
+    by_table_lem (λ (r : Result ElectricBook Refusal). r ≡ Ok fresh → Kept (rates_of division) fresh fresh_tally) (opening_rows division) (Ok (fresh_of division)) Err
+    (λ none opened. subst (λ (b : ElectricBook). Kept (rates_of division) b fresh_tally) (ap (λ (r : Result ElectricBook Refusal). result_unwrap_or r fresh) opened) (fresh_kept division))
+    (λ refusal opened. absurd (true≢false (sym (ap is_ok opened))))
 
 -- the customers' percentage of either division
 percentage_95 : (division : ℕ) → (rates_of division).percentage ≡ pos 95
-unfolding rates_of
 percentage_95 division = go (eqb division 0)
   where
     go : (t : Bool) → (cond t rates_lp rates_mps).percentage ≡ pos 95
@@ -199,6 +200,6 @@ balances rates e b t k =
 
 pub no_cent_lost : NoCentLost
 unfolding NoCentLost
-no_cent_lost division done postings =
+no_cent_lost division fresh opened postings =
     let rates = rates_of division in
-    balances rates (percentage_95 division) _ _ (kept_after rules (count_of rates) (Kept rates) (posting_keeps rates) _ _ postings (opened_kept division done))
+    balances rates (percentage_95 division) _ _ (kept_after rules (count_of rates) (Kept rates) (posting_keeps rates) _ _ postings (opened_kept division fresh opened))

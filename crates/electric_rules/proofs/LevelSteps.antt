@@ -1,14 +1,14 @@
 -- A level and its tally: each kind of posting changes both by the same cents, so it keeps what they share. Assumes nothing.
 use mathlib.Core.Path.{◌≡◌, refl, sym, ap, ◌∙◌}
 use mathlib.Core.Bool.{Bool, true, false, not, ◌||◌, true≢false}
-use Prim.Native.Nat.{ℕ}
+use Rattle.std.specs.Prelude.{Option, is_some}
 use lib.Dec.{T}
 use lib.IntN.{ℤ, pos, ◌+ℤ◌, ◌-ℤ◌}
 use Rattle.ints.specs.Ring.{solve, eq_by, ◌:+◌, ◌:-◌, ◌:*◌, ◌:=◌, #}
 use Rattle.riders.specs.Balances.{line_billed, amount_added, cents_moved}
 use Rattle.riders.specs.Waiting.{none_pending}
-use Rattle.electric_rules.proofs.Waiting.{enters}
 use Rattle.electric_rules.proofs.Held.{held_billed, held_adjusted, held_settled, held_accrued, bearing_held, handed_over_lem}
+use Rattle.electric_rules.specs.declared.EnteringRun.{EnteringRun}
 use Rattle.electric_rules.specs.declared.Level.{Level}
 use Rattle.electric_rules.specs.Levels.{held_by, level_line, billed_level, adjusted_level, settled_level, bearing_of, interest_on, accrued_level, handed_over}
 use Rattle.electric_rules.specs.Tally.{LevelTally, line_counted, share_counted, balance_of, interest_counted, adjustment_counted}
@@ -22,7 +22,7 @@ pub record LevelKept (clear : Bool) (l : Level) (t : LevelTally) : Type 0 where
 
 module _ {clear : Bool} (l : Level) (t : LevelTally) (k : LevelKept clear l t) where
   pub billed_keeps : (u : ℤ) → LevelKept clear (billed_level u l) (line_counted (level_line u l) t)
-  unfolding billed_level line_counted
+  unfolding line_counted
   billed_keeps u =
       record {
         balances = line_billed t.billed (held_by l) k.balances (level_line u l) (held_billed l u);
@@ -31,7 +31,7 @@ module _ {clear : Bool} (l : Level) (t : LevelTally) (k : LevelKept clear l t) w
       }
 
   pub adjusted_keeps : (amount : ℤ) → LevelKept clear (adjusted_level amount l) (adjustment_counted amount t)
-  unfolding adjusted_level adjustment_counted
+  unfolding adjustment_counted
   adjusted_keeps amount =
       record {
         balances =
@@ -43,7 +43,7 @@ module _ {clear : Bool} (l : Level) (t : LevelTally) (k : LevelKept clear l t) w
 
   -- book and tally reckon the same share
   pub settled_keeps : (share counted estimate : ℤ) → share ≡ counted → clear ≡ true → LevelKept false (settled_level share estimate l) (share_counted counted t)
-  unfolding settled_level share_counted
+  unfolding share_counted
   settled_keeps share counted estimate same c =
       record {
         balances =
@@ -65,7 +65,7 @@ module _ {clear : Bool} (l : Level) (t : LevelTally) (k : LevelKept clear l t) w
       k.balances
 
   accrued_keeps : (rate : ℤ) → LevelKept clear (accrued_level rate l) (interest_counted rate t)
-  unfolding accrued_level interest_counted
+  unfolding interest_counted
   accrued_keeps rate =
       let same = ap (interest_on rate) same_balance in
       let x = interest_on rate (balance_of t) in
@@ -77,17 +77,17 @@ module _ {clear : Bool} (l : Level) (t : LevelTally) (k : LevelKept clear l t) w
         pending = k.pending;
       }
 
-  handed_keeps : (after : Bool) (n : ℕ) → T (not after || (enters n || clear)) → LevelKept after (handed_over n l) t
-  handed_keeps after n h =
-      let handed = handed_over_lem l n in
+  handed_keeps : (after : Bool) (entering : Option EnteringRun) → T (not after || (is_some entering || clear)) → LevelKept after (handed_over entering l) t
+  handed_keeps after entering h =
+      let handed = handed_over_lem l entering in
       record {
         balances = cents_moved t.billed (held_by l) k.balances handed.held;
         accrued = (λ i. (handed.interest i).0) ∙ k.accrued;
-        pending = λ c. (λ i. (handed.pending i).due.0) ∙ none_pending after (enters n) clear l.pending h k.pending c;
+        pending = λ c. (λ i. (handed.pending i).due.0) ∙ none_pending after (is_some entering) clear l.pending h k.pending c;
       }
 
 -- a month's end: interest, then the run that enters
 pub ended_keeps :
-    {before : Bool} (l : Level) (t : LevelTally) → LevelKept before l t → (rate : ℤ) (after : Bool) (n : ℕ) → T (not after || (enters n || before)) →
-    LevelKept after (handed_over n (accrued_level rate l)) (interest_counted rate t)
-ended_keeps l t k rate after n h = handed_keeps (accrued_level rate l) (interest_counted rate t) (accrued_keeps l t k rate) after n h
+    {before : Bool} (l : Level) (t : LevelTally) → LevelKept before l t → (rate : ℤ) (after : Bool) (entering : Option EnteringRun) → T (not after || (is_some entering || before)) →
+    LevelKept after (handed_over entering (accrued_level rate l)) (interest_counted rate t)
+ended_keeps l t k rate after entering h = handed_keeps (accrued_level rate l) (interest_counted rate t) (accrued_keeps l t k rate) after entering h

@@ -1,9 +1,10 @@
 -- The electric book (01, Electric book): amounts put together, the fresh book and the opening.
-use Rattle.std.specs.Prelude.{◌≡◌, false, [], ◌∷◌, ℕ, ltb, ℤ, pos}
-use Rattle.refusals.specs.Rows.{row, by_table}
+use Rattle.std.specs.Prelude.{◌≡◌, false, List, [], ◌∷◌, ℕ, ltb, ℤ, pos, Result, Ok, Err}
+use Rattle.std.specs.Result.{result_unwrap_or}
+use Rattle.refusals.specs.Rows.{Row, row, by_table}
+use Rattle.refusals.specs.declared.Refusal.{Refusal}
+use Rattle.refusals.specs.declared.Refusal.TheVariants.{OutOfRange}
 use Rattle.amounts.specs.Amounts.{cents}
-use Rattle.postings.specs.declared.Answer.{Answer}
-use Rattle.postings.specs.declared.Answer.TheVariants.{Done, Refused}
 use Rattle.riders.specs.declared.Run.{Run}
 use Rattle.riders.specs.Runs.{no_run}
 use Rattle.electric_rules.specs.declared.Kwh.{Kwh}
@@ -12,7 +13,6 @@ use Rattle.electric_rules.specs.declared.Level.{Level}
 use Rattle.electric_rules.specs.declared.Sales.{Sales}
 use Rattle.electric_rules.specs.declared.Period.{Period}
 use Rattle.electric_rules.specs.declared.ElectricBook.{ElectricBook}
-use Rattle.electric_rules.specs.declared.Posted.{Posted}
 
 abbrev pub kwh : ℤ → Kwh
 kwh z = record { 0 = z }
@@ -31,13 +31,6 @@ abbrev pub level_of : ℤ → ℤ → Run → Run → Run → Level
 level_of carried interest pending first second =
     record { carried = cents carried; interest = cents interest; pending = pending; first = first; second = second }
 
--- an answer and the book after it
-abbrev pub posted : Answer → ElectricBook → Posted
-posted answer book = record { answer = answer; book = book }
-
-abbrev pub refused : ElectricBook → ℕ → Posted
-refused book n = posted (Refused n) book
-
 -- ---- fresh: month June, all else zero
 
 abbrev pub no_period : Period
@@ -50,9 +43,18 @@ abbrev pub fresh_of : ℕ → ElectricBook
 fresh_of division =
     record { division = division; month = 6; settled = false; period = no_period; secondary = fresh_level; primary = fresh_level }
 
--- 7: an opening out of range hands back L&P
-unfoldable pub opened_of : ℕ → Posted
-opened_of division = by_table (row 7 (ltb 1 division) ∷ []) (posted Done (fresh_of division)) (refused (fresh_of 0))
+-- ---- opening
+
+-- 7: the division is out of range
+abbrev pub opening_rows : ℕ → List Row
+opening_rows division = row OutOfRange (ltb 1 division) ∷ []
+
+unfoldable pub opened_of : ℕ → Result ElectricBook Refusal
+opened_of division = by_table (opening_rows division) (Ok (fresh_of division)) Err
+
+-- the book that an opening hands back: L&P's where it is refused
+abbrev pub handed_back : ℕ → ElectricBook
+handed_back division = result_unwrap_or (opened_of division) (fresh_of 0)
 
 -- a remainder is the same where its number is
 pub same_remainder : {a b : ℤ} → a ≡ b → remainder a ≡ remainder b

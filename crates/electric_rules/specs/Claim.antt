@@ -1,13 +1,12 @@
 -- What holds of every history of an electric book, over every list of postings, refused and unknown ones included: no cent is lost (01, The
 -- tally; proved in proofs/Conservation.antt), and the book stays within its limits (proved in proofs/Within.antt).
-use Rattle.std.specs.Prelude.{◌≡◌, true, List, ℕ, pos, ◌+ℤ◌, ◌-ℤ◌, ◌*ℤ◌}
+use Rattle.std.specs.Prelude.{◌≡◌, true, List, ℕ, pos, ◌+ℤ◌, ◌-ℤ◌, ◌*ℤ◌, Ok}
 use Rattle.ints.specs.Range.{Within}
 use Rattle.postings.specs.declared.Posting.{Posting}
-use Rattle.postings.specs.declared.Answer.TheVariants.{Done}
 use Rattle.riders.specs.Histories.{book_after, entries_of, tally_after}
 use Rattle.electric_rules.specs.declared.Level.{Level}
 use Rattle.electric_rules.specs.declared.ElectricBook.{ElectricBook}
-use Rattle.electric_rules.specs.Book.{opened_of}
+use Rattle.electric_rules.specs.Book.{opened_of, handed_back}
 use Rattle.electric_rules.specs.Rates.{rates_of}
 use Rattle.electric_rules.specs.Levels.{held_by}
 use Rattle.electric_rules.specs.Limits.{in_limits}
@@ -27,11 +26,10 @@ pub record Balances (b : ElectricBook) (t : Tally) : Type 0 where
 -- after every list of postings to the fresh book of an accepted opening; the tally's rates are the opening's
 unfoldable pub NoCentLost : Type 0
 NoCentLost =
-    (division : ℕ) → (opened_of division).answer ≡ Done → (postings : List Posting) →
+    (division : ℕ) (fresh : ElectricBook) → opened_of division ≡ Ok fresh → (postings : List Posting) →
     let rates = rates_of division in
-    let fresh = (opened_of division).book in
     Balances (book_after rules fresh postings) (tally_after (count_of rates) fresh_tally (entries_of rules fresh postings))
 
 -- a book that was opened is never out of its limits, so that row 6 never refuses a posting to it
 unfoldable pub NeverOutOfLimits : Type 0
-NeverOutOfLimits = (division : ℕ) (postings : List Posting) → in_limits (book_after rules (opened_of division).book postings) ≡ true
+NeverOutOfLimits = (division : ℕ) (postings : List Posting) → in_limits (book_after rules (handed_back division) postings) ≡ true

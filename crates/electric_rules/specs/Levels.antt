@@ -1,11 +1,13 @@
 -- A level (01, Electric book): the cents that it holds, those that bear interest, and what each kind of posting makes of it.
-use Rattle.std.specs.Prelude.{cond, List, [], ◌∷◌, ℕ, eqb, ℤ, pos, ◌+ℤ◌, ◌*ℤ◌}
+use Rattle.std.specs.Prelude.{List, [], ◌∷◌, ℤ, pos, ◌+ℤ◌, ◌*ℤ◌, Option, Some, None}
 use Rattle.rounding.specs.Round.{round}
 use Rattle.amounts.specs.Amounts.{cents}
 use Rattle.amounts.specs.declared.Points.{Points}
 use Rattle.riders.specs.Lines.{line_of, part_of}
 use Rattle.riders.specs.declared.Run.{Run}
 use Rattle.riders.specs.Runs.{run, no_run, due_less, factor_for}
+use Rattle.electric_rules.specs.declared.EnteringRun.{EnteringRun}
+use Rattle.electric_rules.specs.declared.EnteringRun.TheVariants.{First, Second}
 use Rattle.electric_rules.specs.declared.Level.{Level}
 use Rattle.electric_rules.specs.Book.{level_of}
 
@@ -21,7 +23,7 @@ factors_of l = l.first.factor ∷ l.second.factor ∷ []
 unfoldable pub level_line : ℤ → Level → ℤ
 level_line u l = line_of u (factors_of l)
 
-unfoldable pub billed_level : ℤ → Level → Level
+abbrev pub billed_level : ℤ → Level → Level
 billed_level u l =
     record {
       carried = l.carried;
@@ -33,7 +35,7 @@ billed_level u l =
 
 -- ---- adjust: C grows by the amount
 
-unfoldable pub adjusted_level : ℤ → Level → Level
+abbrev pub adjusted_level : ℤ → Level → Level
 adjusted_level amount l =
     record { carried = cents (l.carried.0 +ℤ amount); interest = l.interest; pending = l.pending; first = l.first; second = l.second }
 
@@ -48,7 +50,7 @@ abbrev pub filed_level : Run → Level → Level
 filed_level filed l = level_of (pos 0) (pos 0) filed l.first l.second
 
 -- q = round(100 × Q / estimated sales)
-unfoldable pub settled_level : ℤ → ℤ → Level → Level
+abbrev pub settled_level : ℤ → ℤ → Level → Level
 settled_level share estimate l = filed_level (run (factor_for (owed_by share l) estimate) (owed_by share l)) l
 
 -- ---- month end, at a yearly rate in millionths
@@ -62,7 +64,7 @@ unfoldable pub interest_on : ℤ → ℤ → ℤ
 interest_on rate balance = round (rate *ℤ balance) (pos 12000000)
 
 -- I grows by it
-unfoldable pub accrued_level : ℤ → Level → Level
+abbrev pub accrued_level : ℤ → Level → Level
 accrued_level rate l =
     record {
       carried = l.carried;
@@ -82,6 +84,8 @@ abbrev pub into_second : Level → Level
 into_second l =
     record { carried = cents (l.carried.0 +ℤ l.second.due.0); interest = l.interest; pending = no_run; first = l.first; second = l.pending }
 
--- the run that enters, 1, 2 or none
-unfoldable pub handed_over : ℕ → Level → Level
-handed_over entering l = cond (eqb entering 1) (into_first l) (cond (eqb entering 2) (into_second l) l)
+-- the run that enters, if one does
+abbrev pub handed_over : Option EnteringRun → Level → Level
+handed_over None l = l
+handed_over (Some First) l = into_first l
+handed_over (Some Second) l = into_second l

@@ -13,24 +13,24 @@ use Rattle.electric_rules.specs.declared.ElectricBook.{ElectricBook}
 use Rattle.electric_rules.specs.Calendar.{settles}
 
 -- Ss and Sp up to 10^10
-unfoldable pub kwh_in_limits : Kwh → Bool
+abbrev pub kwh_in_limits : Kwh → Bool
 kwh_in_limits sales = in_range (pos 0) (pos 10000000000) sales.0
 
 -- |rem| up to 50,000
-unfoldable pub remainder_in_limits : Remainder → Bool
+abbrev pub remainder_in_limits : Remainder → Bool
 remainder_in_limits rem = in_range (neg_ℤ (pos 50000)) (pos 50000) rem.0
 
-unfoldable pub level_in_limits : Level → Bool
+abbrev pub level_in_limits : Level → Bool
 level_in_limits l =
     cents_in_limits l.carried && (cents_in_limits l.interest && (run_in_limits l.pending && (run_in_limits l.first && run_in_limits l.second)))
 
-unfoldable pub period_in_limits : Period → Bool
+abbrev pub period_in_limits : Period → Bool
 period_in_limits p =
     cents_in_limits p.cost && (kwh_in_limits p.sales.secondary && (kwh_in_limits p.sales.primary && remainder_in_limits p.remainder))
 
 -- division up to 1, month 1 to 12, settled only in a month that settles
-unfoldable pub dates_in_limits : ElectricBook → Bool
+abbrev pub dates_in_limits : ElectricBook → Bool
 dates_in_limits b = leb b.division 1 && month_in_limits b.month (settles b.month) b.settled
 
-unfoldable pub in_limits : ElectricBook → Bool
+abbrev pub in_limits : ElectricBook → Bool
 in_limits b = dates_in_limits b && (period_in_limits b.period && (level_in_limits b.secondary && level_in_limits b.primary))

@@ -3,7 +3,9 @@
 use Rattle.std.specs.Prelude.{Bool, true, false, cond, ℕ, ℤ, pos, ◌+ℤ◌}
 use Rattle.ints.specs.Machine.{eq_z}
 use Rattle.amounts.specs.Amounts.{cents}
-use Rattle.postings.specs.Kinds.{Kind, cost, sales, bill, settle, month_end, adjust, reconcile, unknown, kind_of}
+use Rattle.postings.specs.Kinds.{kind_of}
+use Rattle.postings.specs.declared.kinds.Kind.{Kind}
+use Rattle.postings.specs.declared.kinds.Kind.TheVariants.{Cost, Sales, Bill, Settle, MonthEnd, Adjust, Reconcile, Unknown}
 use Rattle.postings.specs.declared.Posting.{Posting}
 use Rattle.postings.specs.declared.Answer.{Answer}
 use Rattle.postings.specs.declared.Answer.TheVariants.{Line, FiledLevels, Interest, Done}
@@ -74,18 +76,18 @@ with_level_at level b l = cond (is_secondary level) (with_levels b l b.primary) 
 
 -- ---- the next book
 
-unfoldable pub cost_posted : ElectricBook → Posting → ElectricBook
+abbrev pub cost_posted : ElectricBook → Posting → ElectricBook
 cost_posted b p = with_period b (cost_added b.period p)
 
-unfoldable pub sales_posted : ElectricBook → Posting → ElectricBook
+abbrev pub sales_posted : ElectricBook → Posting → ElectricBook
 sales_posted b p = with_period b (sales_added b.period p)
 
 -- level, u
-unfoldable pub bill_posted : ElectricBook → Posting → ElectricBook
+abbrev pub bill_posted : ElectricBook → Posting → ElectricBook
 bill_posted b p = with_level_at p.first b (billed_level p.second (level_at p.first b))
 
 -- Rs, Rp
-unfoldable pub settle_posted : ElectricBook → Posting → ElectricBook
+abbrev pub settle_posted : ElectricBook → Posting → ElectricBook
 settle_posted b p =
     let rates = rates_of b.division in
     settled_with b (remainder (remainder_after rates b.period))
@@ -96,49 +98,49 @@ settle_posted b p =
 abbrev pub ended_level : ℕ → ℤ → Level → Level
 ended_level month rate l = handed_over (entering month) (accrued_level rate l)
 
-unfoldable pub month_ended : ElectricBook → Posting → ElectricBook
+abbrev pub month_ended : ElectricBook → Posting → ElectricBook
 month_ended b p =
     ended_with b (month_after b.month) (ended_level b.month p.first b.secondary) (ended_level b.month p.first b.primary)
 
 -- level, amount
-unfoldable pub adjust_posted : ElectricBook → Posting → ElectricBook
+abbrev pub adjust_posted : ElectricBook → Posting → ElectricBook
 adjust_posted b p = with_level_at p.first b (adjusted_level p.second (level_at p.first b))
 
-unfoldable pub next_at : Kind → ElectricBook → Posting → ElectricBook
-next_at cost b p = cost_posted b p
-next_at sales b p = sales_posted b p
-next_at bill b p = bill_posted b p
-next_at settle b p = settle_posted b p
-next_at month_end b p = month_ended b p
-next_at adjust b p = adjust_posted b p
-next_at reconcile b p = b
-next_at unknown b p = b
+abbrev pub next_at : Kind → ElectricBook → Posting → ElectricBook
+next_at Cost b p = cost_posted b p
+next_at Sales b p = sales_posted b p
+next_at Bill b p = bill_posted b p
+next_at Settle b p = settle_posted b p
+next_at MonthEnd b p = month_ended b p
+next_at Adjust b p = adjust_posted b p
+next_at Reconcile b p = b
+next_at Unknown b p = b
 
 abbrev pub next_of : ElectricBook → Posting → ElectricBook
 next_of b p = next_at (kind_of p.kind) b p
 
 -- ---- the answer
 
-unfoldable pub line_answer : ElectricBook → Posting → Answer
+abbrev pub line_answer : ElectricBook → Posting → Answer
 line_answer b p = Line (cents (level_line p.second (level_at p.first b)))
 
 -- q of each level
-unfoldable pub filed_answer : ElectricBook → Posting → Answer
+abbrev pub filed_answer : ElectricBook → Posting → Answer
 filed_answer b p = FiledLevels (settle_posted b p).secondary.pending.factor (settle_posted b p).primary.pending.factor
 
 -- that month's interest of each level
-unfoldable pub interest_answer : ElectricBook → Posting → Answer
+abbrev pub interest_answer : ElectricBook → Posting → Answer
 interest_answer b p = Interest (cents (interest_on p.first (bearing_of b.secondary))) (cents (interest_on p.first (bearing_of b.primary)))
 
-unfoldable pub answer_at : Kind → ElectricBook → Posting → Answer
-answer_at cost b p = Done
-answer_at sales b p = Done
-answer_at bill b p = line_answer b p
-answer_at settle b p = filed_answer b p
-answer_at month_end b p = interest_answer b p
-answer_at adjust b p = Done
-answer_at reconcile b p = Done
-answer_at unknown b p = Done
+abbrev pub answer_at : Kind → ElectricBook → Posting → Answer
+answer_at Cost b p = Done
+answer_at Sales b p = Done
+answer_at Bill b p = line_answer b p
+answer_at Settle b p = filed_answer b p
+answer_at MonthEnd b p = interest_answer b p
+answer_at Adjust b p = Done
+answer_at Reconcile b p = Done
+answer_at Unknown b p = Done
 
 abbrev pub answer_of : ElectricBook → Posting → Answer
 answer_of b p = answer_at (kind_of p.kind) b p

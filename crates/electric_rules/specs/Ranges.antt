@@ -32,15 +32,12 @@ pub record BookWithin (b : ElectricBook) : Type 0 where
   pub primary : LevelWithin b.primary
 
 kwh_within : (sales : Kwh) → kwh_in_limits sales ≡ true → Between (pos 0) (pos 10000000000) sales.0
-unfolding kwh_in_limits
 kwh_within sales e = in_range_true (pos 0) (pos 10000000000) sales.0 e
 
 remainder_within : (rem : Remainder) → remainder_in_limits rem ≡ true → Within 50000 rem.0
-unfolding remainder_in_limits
 remainder_within rem e = in_range_true (neg_ℤ (pos 50000)) (pos 50000) rem.0 e
 
 level_within : (l : Level) → level_in_limits l ≡ true → LevelWithin l
-unfolding level_in_limits
 level_within l e =
     let c = both (cents_in_limits l.carried) _ e in
     let i = both (cents_in_limits l.interest) _ c.1 in
@@ -55,7 +52,6 @@ level_within l e =
     }
 
 pub period_within : (p : Period) → period_in_limits p ≡ true → PeriodWithin p
-unfolding period_in_limits
 period_within p e =
     let k = both (cents_in_limits p.cost) _ e in
     let s = both (kwh_in_limits p.sales.secondary) _ k.1 in
@@ -68,15 +64,13 @@ period_within p e =
     }
 
 pub period_yes : (p : Period) → PeriodWithin p → period_in_limits p ≡ true
-unfolding period_in_limits cents_in_limits kwh_in_limits remainder_in_limits
+unfolding cents_in_limits
 period_yes p h = simp (in_range_yes _ _ _ h.cost, in_range_yes _ _ _ h.secondary, in_range_yes _ _ _ h.primary, in_range_yes _ _ _ h.remainder)
 
 division_within : (b : ElectricBook) → dates_in_limits b ≡ true → b.division ≤ 1
-unfolding dates_in_limits
 division_within b e = leb-true _ _ (both (leb b.division 1) _ e).0
 
 pub book_within : (b : ElectricBook) → in_limits b ≡ true → BookWithin b
-unfolding in_limits
 book_within b e =
     let d = both (dates_in_limits b) _ e in
     let p = both (period_in_limits b.period) _ d.1 in

@@ -11,11 +11,11 @@ rates_lp = record { percentage = pos 95; base = pos 1799; secondary = pos 108443
 abbrev pub rates_mps : Rates
 rates_mps = record { percentage = pos 95; base = pos 2538; secondary = pos 107433; primary = pos 104187 }
 
-unfoldable pub rates_of : ℕ → Rates
+abbrev pub rates_of : ℕ → Rates
 rates_of division = cond (eqb division 0) rates_lp rates_mps
 
 -- what a sheet may state: a percentage of 1 to 100, a base under a dollar, loss factors of 1 to under 2
-unfoldable pub rates_in_range : Rates → Bool
+abbrev pub rates_in_range : Rates → Bool
 rates_in_range r =
     in_range (pos 1) (pos 100) r.percentage
     && (in_range (pos 0) (pos 99999) r.base

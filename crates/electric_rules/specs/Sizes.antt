@@ -20,7 +20,6 @@ pub record RatesWithin (r : Rates) : Type 0 where
   pub primary : Between (pos 100000) (pos 199999) r.primary
 
 pub rates_within : (r : Rates) → rates_in_range r ≡ true → RatesWithin r
-unfolding rates_in_range
 rates_within r e =
     let p = both (in_range (pos 1) (pos 100) r.percentage) _ e in
     let b = both (in_range (pos 0) (pos 99999) r.base) _ p.1 in
@@ -34,7 +33,7 @@ rates_within r e =
 
 -- those of a division are such
 pub division_rates : (division : ℕ) → rates_in_range (rates_of division) ≡ true
-unfolding rates_of rates_in_range in_range
+unfolding in_range
 division_rates division = go (eqb division 0)
   where
     go : (t : Bool) → rates_in_range (cond t rates_lp rates_mps) ≡ true

@@ -1,7 +1,9 @@
 -- The tally of the electric book (01, The tally): fed each posting, whether it was accepted and, for a bill, the line answered, never the
 -- book. K, Ss, Sp and rem are its own, and stand in a period of its own; V, R, w and the shares follow from them by the book's formulas.
 use Rattle.std.specs.Prelude.{cond, ℤ, pos, ◌+ℤ◌, ◌-ℤ◌}
-use Rattle.postings.specs.Kinds.{Kind, cost, sales, bill, settle, month_end, adjust, reconcile, unknown, kind_of}
+use Rattle.postings.specs.Kinds.{kind_of}
+use Rattle.postings.specs.declared.kinds.Kind.{Kind}
+use Rattle.postings.specs.declared.kinds.Kind.TheVariants.{Cost, Sales, Bill, Settle, MonthEnd, Adjust, Reconcile, Unknown}
 use Rattle.postings.specs.declared.Posting.{Posting}
 use Rattle.riders.specs.Histories.{Entry}
 use Rattle.electric_rules.specs.declared.Rates.{Rates}
@@ -105,15 +107,15 @@ unfoldable pub adjustment_counted : ℤ → LevelTally → LevelTally
 adjustment_counted amount l =
     record { billed = l.billed; shares = l.shares; interest = l.interest; adjustments = l.adjustments +ℤ amount; new_interest = l.new_interest }
 
-unfoldable pub count_at : Kind → Rates → Tally → Posting → ℤ → Tally
-count_at cost rates t p line = cost_counted t p
-count_at sales rates t p line = sales_counted t p
-count_at bill rates t p line = with_level_tally_at p.first t (line_counted line (level_tally_at p.first t))
-count_at settle rates t p line = settle_counted rates t
-count_at month_end rates t p line = with_level_tallies t (interest_counted p.first t.secondary) (interest_counted p.first t.primary)
-count_at adjust rates t p line = with_level_tally_at p.first t (adjustment_counted p.second (level_tally_at p.first t))
-count_at reconcile rates t p line = t
-count_at unknown rates t p line = t
+abbrev pub count_at : Kind → Rates → Tally → Posting → ℤ → Tally
+count_at Cost rates t p line = cost_counted t p
+count_at Sales rates t p line = sales_counted t p
+count_at Bill rates t p line = with_level_tally_at p.first t (line_counted line (level_tally_at p.first t))
+count_at Settle rates t p line = settle_counted rates t
+count_at MonthEnd rates t p line = with_level_tallies t (interest_counted p.first t.secondary) (interest_counted p.first t.primary)
+count_at Adjust rates t p line = with_level_tally_at p.first t (adjustment_counted p.second (level_tally_at p.first t))
+count_at Reconcile rates t p line = t
+count_at Unknown rates t p line = t
 
 -- a refused posting changes nothing
 unfoldable pub count_of : Rates → Tally → Entry → Tally

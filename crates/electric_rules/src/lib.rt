@@ -3,27 +3,28 @@
 #![tactic(auto)]
 
 ghost use Rattle.std.specs.Prelude.{◌≡◌};
-ghost use Rattle.electric_rules.specs.Book.{fresh_level, fresh_of, opened_of};
+ghost use Rattle.electric_rules.specs.Book.{fresh_level, fresh_of, opened_of, handed_back};
 ghost use Rattle.electric_rules.specs.Rates.{rates_in_range};
 ghost use Rattle.electric_rules.specs.Limits.{kwh_in_limits, remainder_in_limits, level_in_limits, period_in_limits};
+ghost use Rattle.electric_rules.specs.Next.{level_at, with_level_at};
 
-use amounts::Cents;
-use postings::Answer;
+use amounts::{Cents, Stored};
+use refusals::Refusal;
 use riders::Run;
 
 // Sales in kWh.
 #[repr(C)]
-#[derive(Clone, Copy)]
+#[derive(Clone, Copy, Debug, PartialEq, Eq)]
 pub struct Kwh(pub i64);
 
 // What rounding left of the customers' shares, in hundred-thousandths of a cent: document 01's rem.
 #[repr(C)]
-#[derive(Clone, Copy)]
+#[derive(Clone, Copy, Debug, PartialEq, Eq)]
 pub struct Remainder(pub i64);
 
 // A voltage level: document 01's C, I, pending run and two runs.
 #[repr(C)]
-#[derive(Clone, Copy)]
+#[derive(Clone, Copy, Debug, PartialEq, Eq)]
 pub struct Level {
     pub carried: Cents,
     pub interest: Cents,
@@ -34,7 +35,7 @@ pub struct Level {
 
 // Sales by level, actual or estimated: document 01's Ss and Sp, or Rs and Rp.
 #[repr(C)]
-#[derive(Clone, Copy)]
+#[derive(Clone, Copy, Debug, PartialEq, Eq)]
 pub struct Sales {
     pub secondary: Kwh,
     pub primary: Kwh,
@@ -42,7 +43,7 @@ pub struct Sales {
 
 // The open period: document 01's K, its sales, and the remainder of the periods before.
 #[repr(C)]
-#[derive(Clone, Copy)]
+#[derive(Clone, Copy, Debug, PartialEq, Eq)]
 pub struct Period {
     pub cost: Cents,
     pub sales: Sales,
@@ -51,7 +52,7 @@ pub struct Period {
 
 // A division's book: the open period and both levels.
 #[repr(C)]
-#[derive(Clone, Copy)]
+#[derive(Clone, Copy, Debug, PartialEq, Eq)]
 pub struct ElectricBook {
     pub division: u8,
     pub month: u8,
@@ -64,7 +65,7 @@ pub struct ElectricBook {
 // The rates of a division: the customers' percentage of a variance, the base in hundred-thousandths of a dollar per kWh, and the loss
 // factors by level over 100,000.
 #[repr(C)]
-#[derive(Clone, Copy)]
+#[derive(Clone, Copy, Debug, PartialEq, Eq)]
 pub struct Rates {
     pub percentage: i64,
     pub base: i64,
@@ -72,11 +73,11 @@ pub struct Rates {
     pub primary: i64,
 }
 
-// An answer and the book after it.
-#[derive(Clone, Copy)]
-pub struct Posted {
-    pub answer: Answer,
-    pub book: ElectricBook,
+// The run of a level that pending enters at a month's end.
+#[derive(Clone, Copy, Debug, PartialEq, Eq)]
+pub enum EnteringRun {
+    First,
+    Second,
 }
 
 impl Kwh {
@@ -149,19 +150,47 @@ impl ElectricBook {
     // The most that the remainder is above or below 0.
     pub const MOST_REMAINDER: i64 = 50_000;
 
-    // The fresh book of a division, 0 L&P or 1 MPS. Any other is refusal 7, with L&P's book.
-    pub fn open(division: u8) -> Posted
+    // The fresh book of a division, 0 L&P or 1 MPS. Any other is out of range.
+    pub fn open(division: u8) -> Result<ElectricBook, Refusal>
         ensures { result ≡ opened_of division }
     {
         if ElectricBook::LAST_DIVISION < division {
-            return Posted {
-                answer: Answer::Refused(7),
-                book: ElectricBook::fresh(0),
+            return Err(Refusal::OutOfRange);
+        }
+        Ok(ElectricBook::fresh(division))
+    }
+
+    // The book that an opening hands back: the fresh one, or L&P's where it is refused.
+    pub fn handed_back(division: u8) -> ElectricBook
+        ensures { result ≡ handed_back division }
+    {
+        ElectricBook::open(division).unwrap_or(ElectricBook::fresh(0))
+    }
+
+    // The level that a bill or an adjustment names: 0 secondary, 1 primary.
+    pub fn level(self, named: i64) -> Level
+        ensures { result ≡ level_at named self }
+    {
+        if named == 0 {
+            self.secondary
+        } else {
+            self.primary
+        }
+    }
+
+    // The book with another level in the place of that one.
+    pub fn with_level(self, named: i64, level: Level) -> ElectricBook
+        ensures { result ≡ with_level_at named self level }
+    {
+        if named == 0 {
+            return ElectricBook {
+                secondary: level,
+                ..self
             };
         }
-        Posted {
-            answer: Answer::Done,
-            book: ElectricBook::fresh(division),
+        ElectricBook {
+            primary: level,
+            ..self
         }
     }
 

@@ -8,7 +8,7 @@ use Rattle.electric_rules.specs.Book.{remainder}
 use Rattle.electric_rules.specs.Rates.{rates_in_range}
 use Rattle.electric_rules.specs.Settlement.{remainder_after, secondary_share, primary_share}
 use Rattle.electric_rules.specs.Limits.{period_in_limits}
-use Rattle.electric_settlement.specs.declared.Weight.{Weight}
+use Rattle.electric_settlement.specs.declared.settling.Weight.{Weight}
 use Rattle.electric_settlement.specs.declared.Shares.{Shares}
 
 abbrev pub as_weight : ℤ → Weight
@@ -26,9 +26,8 @@ shares_of rates period =
 abbrev no_shares : Period → Shares
 no_shares period = record { secondary = cents (pos 0); primary = cents (pos 0); remainder = period.remainder }
 
-unfoldable pub shares_or0 : Rates → Period → Shares
+abbrev pub shares_or0 : Rates → Period → Shares
 shares_or0 rates period = cond (rates_in_range rates && period_in_limits period) (shares_of rates period) (no_shares period)
 
 pub shares_or0_is : (rates : Rates) (period : Period) → rates_in_range rates ≡ true → period_in_limits period ≡ true → shares_or0 rates period ≡ shares_of rates period
-unfolding shares_or0
 shares_or0_is rates period r p = simp (r, p)

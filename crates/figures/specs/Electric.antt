@@ -2,6 +2,7 @@
 use Rattle.std.specs.Prelude.{false, List, [], ◌∷◌, ℤ, pos, neg_ℤ}
 use Rattle.postings.specs.Answers.{answer_values}
 use Rattle.postings.specs.declared.Posting.{Posting}
+use Rattle.riders.specs.Rules.{answer_given}
 use Rattle.electric_rules.specs.declared.Period.{Period}
 use Rattle.electric_rules.specs.declared.ElectricBook.{ElectricBook}
 use Rattle.electric_rules.specs.Book.{sales_of, period_of, fresh_level}
@@ -38,7 +39,7 @@ electric =
     -- shares
     ∷ ((secondary_share rates_lp whole ∷ primary_share rates_lp whole ∷ []) are (pos 115513 ∷ pos 75437 ∷ []))
     -- both factors, as the book answers
-    ∷ (answer_values (post_of november estimates).answer are (pos 9 ∷ pos 9 ∷ []))
+    ∷ (answer_values (answer_given (post_of november estimates)) are (pos 9 ∷ pos 9 ∷ []))
     -- R and rem, first and then
     ∷ ((share_of rates_lp (tiny (pos 0)) ∷ remainder_after rates_lp (tiny (pos 0)) ∷ []) are (pos 1 ∷ neg_ℤ (pos 43000) ∷ []))
     ∷ ((share_of rates_lp again ∷ remainder_after rates_lp again ∷ []) are (pos 0 ∷ pos 14000 ∷ []))

@@ -4,6 +4,7 @@ use Rattle.amounts.specs.Amounts.{cents, points}
 use Rattle.postings.specs.Answers.{answer_number, answer_values}
 use Rattle.postings.specs.declared.Posting.{Posting}
 use Rattle.riders.specs.Lines.{together}
+use Rattle.riders.specs.Rules.{answer_given}
 use Rattle.riders.specs.Runs.{no_run}
 use Rattle.steam_rules.specs.declared.Period.{Period}
 use Rattle.steam_rules.specs.declared.SteamBook.{SteamBook}
@@ -41,13 +42,13 @@ determinants B = determinants_of B (four (mmbtu (pos 1000))) (pos 7)
 
 -- what an adjustment by n with g 1,000,000 is answered
 abbrev adjusted : ℤ → ℤ
-adjusted n = pos (answer_number (post_of (fresh_of (four (mmbtu (pos 0)))) (record { kind = 6; first = n; second = pos 1000000; third = pos 0 })).answer)
+adjusted n = pos (answer_number (answer_given (post_of (fresh_of (four (mmbtu (pos 0)))) (record { kind = 6; first = n; second = pos 1000000; third = pos 0 }))))
 
 abbrev pub steam : List Figure
 steam =
     -- R, and q as the book answers
     (share_of quarter is pos 556000)
-    ∷ (answer_values (post_of march settlement).answer are (pos 1390 ∷ []))
+    ∷ (answer_values (answer_given (post_of march settlement)) are (pos 1390 ∷ []))
     -- sheet 6.5's factors together
     ∷ (together (points (pos 2005) ∷ points (pos 1000) ∷ points (pos 1952) ∷ points (pos 2552) ∷ []) is pos 7509)
     -- b left out, and taken

@@ -1,13 +1,13 @@
 // The electric book for a host: a book goes in by value, and comes back with the reply.
-ghost use Rattle.std.specs.Prelude.{◌≡◌};
+ghost use Rattle.std.specs.Prelude.{◌≡◌, Ok, Err};
 ghost use Rattle.postings.specs.declared.Answer.TheVariants.{Done};
-ghost use Rattle.electric_rules.specs.Book.{opened_of};
 ghost use Rattle.electric_rules.specs.Refusals.{post_of};
-ghost use Rattle.host.specs.Replies.{electric_reply, electric_reply_of};
+ghost use Rattle.host.specs.Replies.{electric_reply, electric_reply_of, electric_opened};
 
 use amounts::{Cents, Points};
-use electric_rules::{ElectricBook, Posted};
-use postings::{Answer, Posting};
+use electric_rules::ElectricBook;
+use postings::{Answer, Posted, Posting};
+use refusals::Refusal;
 
 // Cents of either level.
 #[repr(C)]
@@ -38,7 +38,7 @@ pub struct ElectricReply {
 
 // Nothing refused and nothing to say.
 fn done(book: ElectricBook) -> ElectricReply
-    ensures { result ≡ electric_reply_of Done book }
+    ensures { result ≡ electric_reply_of (Ok Done) book }
 {
     ElectricReply {
         number: 0,
@@ -55,48 +55,46 @@ fn done(book: ElectricBook) -> ElectricReply
     }
 }
 
-fn reply_with(posted: Posted) -> ElectricReply
-    ensures { result ≡ electric_reply posted }
+// A refusal, with the book that is handed back.
+fn refused(refusal: Refusal, book: ElectricBook) -> ElectricReply
+    ensures { result ≡ electric_reply_of (Err refusal) book }
 {
-    let answer = posted.answer;
-    let book = posted.book;
     let mut reply = done(book);
-    match answer {
-        Answer::Line(cents) => {
-            reply.line = cents;
-            reply
-        }
-        Answer::FiledLevels(secondary, primary) => {
-            let filed = LevelPoints { secondary, primary };
-            reply.filed = filed;
-            reply
-        }
-        Answer::Filed(_) => reply,
-        Answer::Interest(secondary, primary) => {
-            let interest = LevelCents { secondary, primary };
-            reply.interest = interest;
-            reply
-        }
-        Answer::Done => reply,
-        Answer::Refused(number) => {
-            reply.number = number;
-            reply
-        }
+    reply.number = refusal.number();
+    reply
+}
+
+fn answered(posted: Posted<ElectricBook>) -> ElectricReply
+    ensures { result ≡ electric_reply_of (Ok posted.answer) posted.book }
+{
+    let mut reply = done(posted.book);
+    match posted.answer {
+        Answer::Line(line) => reply.line = line,
+        Answer::FiledLevels(secondary, primary) => reply.filed = LevelPoints { secondary, primary },
+        Answer::Interest(secondary, primary) => reply.interest = LevelCents { secondary, primary },
+        Answer::Filed(_) | Answer::Done => {}
     }
+    reply
 }
 
 // The fresh electric book of a division, 0 L&P or 1 MPS. Any other is refusal 7, with L&P's book.
 #[unsafe(no_mangle)]
 pub extern "C" fn neapscroll_electric_open(division: u8) -> ElectricReply
-    ensures { result ≡ electric_reply (opened_of division) }
+    ensures { result ≡ electric_opened division }
 {
-    reply_with(ElectricBook::open(division))
+    match ElectricBook::open(division) {
+        Ok(book) => done(book),
+        Err(refusal) => refused(refusal, ElectricBook::handed_back(division)),
+    }
 }
 
 // What a posting gives: the answer and the next book, or a refusal's number and the book as it was.
 #[unsafe(no_mangle)]
 pub extern "C" fn neapscroll_electric_post(book: ElectricBook, posting: Posting) -> ElectricReply
-    ensures { result ≡ electric_reply (post_of book posting) }
+    ensures { result ≡ electric_reply book (post_of book posting) }
 {
-    reply_with(electric::post(book, posting))
+    match electric::post(book, posting) {
+        Ok(posted) => answered(posted),
+        Err(refusal) => refused(refusal, book),
+    }
 }

@@ -2,8 +2,9 @@
 ghost use Rattle.std.specs.Prelude.{◌≡◌, ◌≤◌, length};
 ghost use Rattle.amounts.specs.Text.{text_written, text_left};
 ghost use Rattle.journal.specs.Journal.{journal_of, room_of};
+ghost use Rattle.host.specs.Results.{written_as};
 
-use refusals::Written;
+use crate::results::Written;
 
 // How many bytes the journal of the input is, which is no more than there is room enough for.
 #[unsafe(no_mangle)]
@@ -16,7 +17,7 @@ pub extern "C" fn neapscroll_journal_length(input: &[u8]) -> usize
 // Writes the journal of the input: what the journal program prints for it.
 #[unsafe(no_mangle)]
 pub extern "C" fn neapscroll_journal(input: &[u8], buffer: &mut [u8]) -> Written
-    ensures { (result ≡ text_written (journal_of input.now) buffer.old) × (buffer.new ≡ text_left (journal_of input.now) buffer.old) }
+    ensures { (result ≡ written_as (text_written (journal_of input.now) buffer.old)) × (buffer.new ≡ text_left (journal_of input.now) buffer.old) }
 {
-    journal::write(input, buffer)
+    Written::from(journal::write(input, buffer))
 }

@@ -8,14 +8,15 @@ ghost use Rattle.rounding.specs.Weight.{weight_or0};
 ghost use Rattle.amounts.specs.Text.{cents_text, points_text, text_written, text_left};
 ghost use Rattle.records.specs.Records.{read_of, record_written, record_left};
 ghost use Rattle.host.specs.Books.{book_of};
+ghost use Rattle.host.specs.Results.{read_at, written_as};
 
-use amounts::{Cents, Points};
+use amounts::{Amount, Cents, Points};
 use postings::{Book, Posting};
-use records::Read;
-use refusals::Written;
+use results::{Read, Written};
 
 mod electric_book;
 mod journal_text;
+mod results;
 mod steam_book;
 
 // round(a/b); a divisor below 1 gives 0.
@@ -37,17 +38,17 @@ pub extern "C" fn neapscroll_weight(secondary: i64, primary: i64) -> i64
 // Writes cents as text.
 #[unsafe(no_mangle)]
 pub extern "C" fn neapscroll_write_cents(cents: Cents, buffer: &mut [u8]) -> Written
-    ensures { (result ≡ text_written (cents_text cents) buffer.old) × (buffer.new ≡ text_left (cents_text cents) buffer.old) }
+    ensures { (result ≡ written_as (text_written (cents_text cents) buffer.old)) × (buffer.new ≡ text_left (cents_text cents) buffer.old) }
 {
-    cents.write(buffer)
+    Written::from(cents.write(buffer))
 }
 
 // Writes points as text.
 #[unsafe(no_mangle)]
 pub extern "C" fn neapscroll_write_points(points: Points, buffer: &mut [u8]) -> Written
-    ensures { (result ≡ text_written (points_text points) buffer.old) × (buffer.new ≡ text_left (points_text points) buffer.old) }
+    ensures { (result ≡ written_as (text_written (points_text points) buffer.old)) × (buffer.new ≡ text_left (points_text points) buffer.old) }
 {
-    points.write(buffer)
+    Written::from(points.write(buffer))
 }
 
 fn book_of(steam: bool) -> Book
@@ -59,9 +60,9 @@ fn book_of(steam: bool) -> Book
 // Reads the record at a place, of the steam book or of the electric one.
 #[unsafe(no_mangle)]
 pub extern "C" fn neapscroll_read_record(steam: bool, bytes: &[u8], place: usize) -> Read
-    ensures { result ≡ read_of (book_of steam) bytes.now place }
+    ensures { result ≡ read_at place (read_of (book_of steam) bytes.now place) }
 {
-    records::read_record(book_of(steam), bytes, place)
+    results::read_at(place, records::read_record(book_of(steam), bytes, place))
 }
 
 // Writes the record of a posting to the steam book or to the electric one.
@@ -71,7 +72,7 @@ pub extern "C" fn neapscroll_write_record(
     posting: Posting,
     buffer: &mut [u8],
 ) -> Written
-    ensures { (result ≡ record_written (book_of steam) posting buffer.old) × (buffer.new ≡ record_left (book_of steam) posting buffer.old) }
+    ensures { (result ≡ written_as (record_written (book_of steam) posting buffer.old)) × (buffer.new ≡ record_left (book_of steam) posting buffer.old) }
 {
-    records::write_record(book_of(steam), posting, buffer)
+    Written::from(records::write_record(book_of(steam), posting, buffer))
 }

@@ -1,14 +1,14 @@
 // The steam book for a host: a book goes in by value, and comes back with the reply.
-ghost use Rattle.std.specs.Prelude.{◌≡◌, [], ◌∷◌};
+ghost use Rattle.std.specs.Prelude.{◌≡◌, [], ◌∷◌, Ok, Err};
 ghost use Rattle.postings.specs.declared.Answer.TheVariants.{Done};
 ghost use Rattle.steam_rules.specs.Book.{mmbtu};
-ghost use Rattle.steam_rules.specs.Opening.{opened_of};
 ghost use Rattle.steam_rules.specs.Refusals.{post_of};
-ghost use Rattle.host.specs.Replies.{steam_reply, steam_reply_of};
+ghost use Rattle.host.specs.Replies.{steam_reply, steam_reply_of, steam_opened};
 
 use amounts::{Cents, Points};
-use postings::{Answer, Posting};
-use steam_rules::{Mmbtu, Posted, SteamBook};
+use postings::{Answer, Posted, Posting};
+use refusals::Refusal;
+use steam_rules::{Mmbtu, SteamBook};
 
 // The refusal's number, or 0 and what the posting is answered with, 0 where a field does not apply; and the book after it. No bytes lie
 // unused right before the book, since it would then be copied twice.
@@ -23,7 +23,7 @@ pub struct SteamReply {
 
 // Nothing refused and nothing to say.
 fn done(book: SteamBook) -> SteamReply
-    ensures { result ≡ steam_reply_of Done book }
+    ensures { result ≡ steam_reply_of (Ok Done) book }
 {
     SteamReply {
         number: 0,
@@ -33,29 +33,25 @@ fn done(book: SteamBook) -> SteamReply
     }
 }
 
-fn reply_with(posted: Posted) -> SteamReply
-    ensures { result ≡ steam_reply posted }
+// A refusal, with the book that is handed back.
+fn refused(refusal: Refusal, book: SteamBook) -> SteamReply
+    ensures { result ≡ steam_reply_of (Err refusal) book }
 {
-    let answer = posted.answer;
-    let book = posted.book;
     let mut reply = done(book);
-    match answer {
-        Answer::Line(cents) => {
-            reply.line = cents;
-            reply
-        }
-        Answer::FiledLevels(_, _) => reply,
-        Answer::Filed(points) => {
-            reply.filed = points;
-            reply
-        }
-        Answer::Interest(_, _) => reply,
-        Answer::Done => reply,
-        Answer::Refused(number) => {
-            reply.number = number;
-            reply
-        }
+    reply.number = refusal.number();
+    reply
+}
+
+fn answered(posted: Posted<SteamBook>) -> SteamReply
+    ensures { result ≡ steam_reply_of (Ok posted.answer) posted.book }
+{
+    let mut reply = done(posted.book);
+    match posted.answer {
+        Answer::Line(line) => reply.line = line,
+        Answer::Filed(factor) => reply.filed = factor,
+        Answer::FiledLevels(_, _) | Answer::Interest(_, _) | Answer::Done => {}
     }
+    reply
 }
 
 // The fresh steam book after the sales of four quarters in million BTU, oldest first. One out of range is refusal 7, with the book after
@@ -67,15 +63,22 @@ pub extern "C" fn neapscroll_steam_open(
     third: i64,
     fourth: i64,
 ) -> SteamReply
-    ensures { result ≡ steam_reply (opened_of (mmbtu first ∷ mmbtu second ∷ mmbtu third ∷ mmbtu fourth ∷ [])) }
+    ensures { result ≡ steam_opened (mmbtu first ∷ mmbtu second ∷ mmbtu third ∷ mmbtu fourth ∷ []) }
 {
-    reply_with(SteamBook::open([Mmbtu(first), Mmbtu(second), Mmbtu(third), Mmbtu(fourth)]))
+    let quarters = [Mmbtu(first), Mmbtu(second), Mmbtu(third), Mmbtu(fourth)];
+    match SteamBook::open(quarters) {
+        Ok(book) => done(book),
+        Err(refusal) => refused(refusal, SteamBook::handed_back(quarters)),
+    }
 }
 
 // What a posting gives: the answer and the next book, or a refusal's number and the book as it was.
 #[unsafe(no_mangle)]
 pub extern "C" fn neapscroll_steam_post(book: SteamBook, posting: Posting) -> SteamReply
-    ensures { result ≡ steam_reply (post_of book posting) }
+    ensures { result ≡ steam_reply book (post_of book posting) }
 {
-    reply_with(steam::post(book, posting))
+    match steam::post(book, posting) {
+        Ok(posted) => answered(posted),
+        Err(refusal) => refused(refusal, book),
+    }
 }

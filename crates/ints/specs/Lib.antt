@@ -16,15 +16,16 @@
 --   a callee's range                         within_by (search bounds depth 30) tt                   Bound       doubled
 --   that a result is its formula             exact (search exacts depth 30) tt                       Exact       variance, negated
 --   .. with a callee's result in it          search (bounds, b_eq), search (exacts, e_eq)            Exact       doubled
---   .. with an i32 known by its type alone   search (bounds, wide32), search (exacts, wide32)        Exact       scaled
+--   .. with an i32 known by its type alone   search (.., wide32), after i64::from (.., e_eq, wide32)   Exact       scaled
 --   that a cast to an unsigned type fits     to_unsigned c.ranges.x (omega signed) tt                Machine     counted
 --   what `<`, `<=` tested                    omega signed, of fields with their SFits at hand        Order       not_below_zero, at_most
---   what `==` tested                         eq_bits f g c.if-x-y.true                               Machine     first_if_equal
+--   what `==` tested of two numbers          eq_bits f g c.if-x-y.true                               Machine
 --   .. of a number and 0                     eq_bits f zero64 c.if-x-y.true                          Machine
---   that `==` is a result                    eq_z_bits f g                                           Machine     same
+--   .. of two structs, by a derive           (signed_Decides x y).0 (sym c.eq.ensures ∙ c.if-eq.true) std Cmp     first_if_equal
+--   that `==` of two numbers is a result     eq_z_bits f g                                           Machine
 --   what a function tested of a number       tested p f c.f.ensures c.if-x-y.true                    Machine     kept
 --   .. where `not r` is what is known        tested_not p f c.f.ensures c.if-x-y.false               Machine     kept
---   that `size` gave a number's size         size_read c.ranges.x c.size.ensures                     Machine
+--   that `unsigned_abs` gave a number's size size_read c.ranges.x c.unsigned_abs.ensures.value       Machine
 --   that a call is handed on                 handed_on f r p q (c.f.type_inv) c.f.ensures            Machine     handed
 --   that digits make their number, and back  value_digits base n .., digits_value base ds ..         DigitLaws   three_digits
 --   a fact of every number below a numeral   all_below_lem 12 f tt k h                               Flags       below_its_double

@@ -21,13 +21,9 @@ reads w z h = to_z-of_z {w = w} {z = z} (record { sfits = h })
 pub handed_on : {w : Width} {x y : ℤ} (f : ℤ → ℤ → ℤ) (r : ℤ) → SFits w x → SFits w y → mag r < 2 ^ hbits w → r ≡ f (to_z w (of_z w x)) (to_z w (of_z w y)) → to_z w (of_z w r) ≡ f x y
 handed_on {w} f r p q h e = reads w r h ∙ e ∙ ap₂ f (to_z-of_z p) (to_z-of_z q)
 
--- what `size` gave of a number, and the most that it can be
+-- what `unsigned_abs` gave of a number
 pub size_read : {w : Width} {r : ℕ} {z : ℤ} → SFits w z → r ≡ nat_abs (to_z w (of_z w z)) → r ≡ nat_abs z
 size_read f e = e ∙ ap nat_abs (to_z-of_z f)
-
-pub size_most : {w : Width} {z : ℤ} → SFits w z → nat_abs z ≤ 2 ^ hbits w
-size_most {w} {z = pos n} f = omega (arith, f.sfits)
-size_most {w} {z = negsuc n} f = f.sfits
 
 -- a test p of what was read, made by a function that ensures `r ≡ p x`, had the outcome v: so has p of the number itself
 pub tested : {w : Width} {z : ℤ} {r v : Bool} (p : ℤ → Bool) → SFits w z → r ≡ p (to_z w (of_z w z)) → r ≡ v → p z ≡ v

@@ -4,7 +4,7 @@ ghost use Rattle.std.specs.Prelude.{◌≡◌, cond, pos, neg_ℤ, ◌+ℤ◌, �
 ghost use Rattle.ints.specs.Range.{Between, Within, in_range};
 ghost use Rattle.ints.specs.Machine.{eq_z};
 
-#[derive(Clone, Copy)]
+#[derive(Clone, Copy, PartialEq)]
 struct Money(i64);
 
 #[derive(Clone, Copy)]
@@ -23,7 +23,7 @@ fn scaled(money: Money, rate: Rate) -> Money
     requires { Within 2000000 money.0 }
     ensures { result.0 ≡ money.0 *ℤ rate.0 }
 {
-    Money(money.0 * (rate.0 as i64))
+    Money(money.0 * i64::from(rate.0))
 }
 
 // A call with a range to show, and its result in a sum: what it ensures gives value and range.
@@ -78,21 +78,21 @@ fn at_most(money: Money, limit: Money) -> Money
     limit
 }
 
-// `==` on fields, as a test: equal bits are equal numbers.
+// `==` by a derive, as a test: equal values.
 fn first_if_equal(a: Money, b: Money) -> Money
-    ensures { result.0 ≡ b.0 }
+    ensures { result ≡ b }
 {
-    if a.0 == b.0 {
+    if a == b {
         return a;
     }
     b
 }
 
-// `==` on fields, as a result.
+// `==` by a derive, as a result.
 fn same(a: Money, b: Money) -> bool
     ensures { result ≡ eq_z a.0 b.0 }
 {
-    a.0 == b.0
+    a == b
 }
 
 // What a function tested of a field, once negated and once not, in a definition by those tests.

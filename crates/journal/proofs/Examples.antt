@@ -4,7 +4,7 @@ use lib.Count.{ones, ones_in}
 use Rattle.ints.specs.Range.{in_range}
 use Rattle.ints.specs.Digits.{digits, value}
 use Rattle.rounding.specs.Round.{tie_of, rounded_of, nearest_of, round}
-use Rattle.refusals.specs.Rows.{refusal_by, by_table}
+use Rattle.refusals.specs.Rows.{number_of, refusal_by, by_table}
 use Rattle.amounts.specs.Amounts.{cents_in_limits, points_in_limits}
 use Rattle.amounts.specs.Text.{cents_text, text_of, sign_of, decimal, width_of, width_in}
 use Rattle.postings.specs.Kinds.{kind_of, unknown_kind, fields_of, stands_beyond, stray_number, out_of_range}
@@ -26,5 +26,5 @@ use Rattle.journal.specs.Examples.{ExampleHolds}
 use Rattle.journal.specs.Lines as lines
 
 pub example_holds : ExampleHolds
-unfolding journal_of bad_division electric_lines lines_from lines.record_line lines.answer_text read_of by_table refusal_by unknown_kind kind_of fields_of stands_beyond stray_number out_of_range record_length ones ones_in bits_from fields_at zero_present field_of twos_complement value opened_of answered_by left_by nothing_sold in_limits level_in_limits period_in_limits dates_in_limits kwh_in_limits remainder_in_limits run_in_limits cents_in_limits points_in_limits month_in_limits forbidden settles in_range next_at answer_at cost_posted bill_posted line_answer billed_level level_line line_of part_of round nearest_of rounded_of tie_of cents_text text_of sign_of decimal width_of width_in digits
+unfolding journal_of bad_division electric_lines lines_from lines.record_line read_of number_of by_table refusal_by unknown_kind kind_of fields_of stands_beyond stray_number out_of_range record_length ones ones_in bits_from fields_at zero_present field_of twos_complement value opened_of answered_by left_by run_in_limits cents_in_limits points_in_limits month_in_limits in_range level_line line_of part_of round nearest_of rounded_of tie_of cents_text text_of sign_of decimal width_of width_in digits
 example_holds = refl

@@ -1,4 +1,4 @@
--- Laws of the journal's definitions, over plain numbers and lists, that the proofs of the code cite.
+-- Laws of what is stored piece behind piece, of a run turn by turn, and of what an input opens; and the paper's example.
 pub mod Storing
 pub mod Running
 pub mod Openings

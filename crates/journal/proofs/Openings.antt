@@ -1,27 +1,33 @@
--- What is printed by how an input opens, and room enough for it. Assumes nothing.
-use mathlib.Core.Path.{◌≡◌, refl, sym, ap, ◌∙◌}
-use mathlib.Core.Bool.{Bool, true, false, cond, not, ◌||◌, true≢false}
+-- What an input opens, by how it begins, and room enough for its journal. Assumes nothing.
+use mathlib.Core.Path.{◌≡◌, refl, sym, ap, ◌∙◌, subst}
+use mathlib.Core.Bool.{Bool, true, false, cond, ◌||◌, true≢false}
 use mathlib.Core.List.{List, [], ◌∷◌}
 use Prim.Native.Nat.{ℕ, ◌+◌, ◌*◌, ◌<◌, ◌≤◌}
 use native.Mathlib.Omega.{arith}
 use lib.Dec.{eqb, ltb}
-use lib.IntN.{pos}
 use lib.ListN.{length}
-use borrow.Author.Tests.{ltb-false, lt-ltb, le-ltb, eq-eqb, ne_eqb}
-use Rattle.refusals.specs.Rows.{row, refusal_by}
-use Rattle.refusals.proofs.TableLaws.{at_row, past_row, accepted, gives_asked, gives_refusal, gives_number}
-use Rattle.postings.specs.Answers.{answer_number}
-use Rattle.postings.specs.declared.Answer.TheVariants.{Done}
-use Rattle.riders.specs.Histories.{was_accepted}
+use borrow.Author.Tests.{eqb-false, ltb-false, lt-ltb, le-ltb, eq-eqb, ne_eqb}
+use Rattle.std.specs.Prelude.{Some, Result, Ok, Err, is_err}
+use Rattle.std.specs.Result.{result_unwrap_or}
+use Rattle.std.proofs.lemmas.Option.{none-some, same_Some}
+use Rattle.std.proofs.lemmas.Bool.{ltb-true}
+use Rattle.refusals.specs.Rows.{row, refusal_by, by_table}
+use Rattle.refusals.specs.declared.Refusal.{Refusal}
+use Rattle.refusals.specs.declared.Refusal.TheVariants.{NoRecord, OutOfRange}
+use Rattle.refusals.proofs.TableLaws.{at_row, past_row, accepted, gives_asked, gives_refusal, gives_of, row_refuses, table_accepts, table_refuses, none_holds}
+use lib.IntN.{pos}
+use Rattle.steam_rules.specs.declared.SteamBook.{SteamBook}
 use Rattle.steam_rules.specs.declared.Mmbtu.{Mmbtu}
-use Rattle.steam_rules.specs.Book.{mmbtu, posted, refused, four, fresh_of}
-use Rattle.steam_rules.specs.Limits.{quarters_in_limits}
+use Rattle.steam_rules.specs.Book.{mmbtu, four}
+use Rattle.electric_rules.specs.declared.ElectricBook.{ElectricBook}
 use Rattle.journal.specs.Lines.{opening_refused}
-use Rattle.journal.specs.Journal.{journal_rows, journal_of, opens_steam, bad_opening, bad_quarters, bad_division, first_byte, steam_run, electric_run, room_of}
-use Rattle.electric_rules.specs.declared.Posted as electric_posted
+use Rattle.journal.specs.Journal.{journal_rows, journal_of, opens_steam, bad_opening, bad_quarters, bad_division, first_byte, quarters_in, steam_lines, electric_lines, steam_run, electric_run, room_of}
+use Rattle.journal.specs.Steps.{opened_book, opened_by}
+use Rattle.journal.specs.declared.opening.FreshBook.{FreshBook}
+use Rattle.journal.specs.declared.opening.FreshBook.TheVariants.{Electric, Steam}
 use Rattle.electric_rules.specs.Book as electric
-use Rattle.steam_rules.specs.declared.Posted as steam_posted
 use Rattle.steam_rules.specs.Opening as steam
+use Rattle.steam_rules.specs.Book as steam_book
 
 pub room_some : (n : ℕ) → 82 ≤ room_of n
 unfolding room_of
@@ -35,75 +41,128 @@ pub room_within : (n : ℕ) → n ≤ 65536 → room_of n ≡ 41 * n + 82
 unfolding room_of
 room_within n h = simp (le-ltb 65536 n h)
 
--- ---- which openings a book refuses
+-- ---- what is printed, by what is opened
 
-by_row : (t : Bool) → not (eqb (cond t 7 0) 0) ≡ t
-by_row true = refl
-by_row false = refl
+-- the lines of the records behind the opening, or what is printed for none
+abbrev printed : List ℕ → Result FreshBook Refusal → List ℕ
+printed bytes (Ok (Electric fresh)) = electric_lines fresh bytes 1
+printed bytes (Ok (Steam fresh)) = steam_lines fresh bytes 33
+printed bytes (Err refusal) = opening_refused refusal
 
-pub refuses_quarters : (quarters : List Mmbtu) → not (was_accepted (steam.opened_of quarters).answer) ≡ not (quarters_in_limits quarters)
-unfolding steam.opened_of refusal_by
-refuses_quarters quarters =
-    let n = gives_number (row 7 (not (quarters_in_limits quarters)) ∷ []) (posted Done (fresh_of quarters)) (refused (fresh_of (four (mmbtu (pos 0))))) (λ (r : steam_posted.Posted). answer_number r.answer) refl (λ n. refl) in
-    ap (λ (n : ℕ). not (eqb n 0)) n ∙ by_row (not (quarters_in_limits quarters))
+pub journal_opened : (bytes : List ℕ) {opened : Result FreshBook Refusal} → opened ≡ opened_by bytes → printed bytes opened ≡ journal_of bytes
+unfolding journal_of opened_by
+journal_opened bytes e =
+    ap (printed bytes) e ∙ gives_of (journal_rows bytes) (Ok (opened_book bytes)) Err (printed bytes)
+    ∙ ap (λ (lines : List ℕ). by_table (journal_rows bytes) lines opening_refused) (by_byte (opens_steam bytes))
+  where
+    by_byte :
+        (t : Bool) → printed bytes (Ok (cond t (Steam (steam.handed_back (quarters_in bytes))) (Electric (electric.handed_back (first_byte bytes)))))
+        ≡ cond t (steam_run bytes) (electric_run bytes)
+    by_byte true = refl
+    by_byte false = refl
 
-bad_division_lem : (bytes : List ℕ) → bad_division bytes ≡ ltb 1 (first_byte bytes)
-unfolding bad_division electric.opened_of refusal_by
-bad_division_lem bytes =
-    let n = gives_number (row 7 (ltb 1 (first_byte bytes)) ∷ []) (electric.posted Done (electric.fresh_of (first_byte bytes))) (electric.refused (electric.fresh_of 0)) (λ (r : electric_posted.Posted). answer_number r.answer) refl (λ n. refl) in
-    ap (λ (n : ℕ). not (eqb n 0)) n ∙ by_row (ltb 1 (first_byte bytes))
+-- ---- the quarters behind byte 02
+
+abbrev quarters_by : List ℕ → Result (List Mmbtu) Refusal
+quarters_by bytes = by_table (row OutOfRange (ltb (length bytes) 33) ∷ []) (Ok (quarters_in bytes)) Err
+
+pub quarters_given : (bytes : List ℕ) {quarters : List Mmbtu} → Ok quarters ≡ quarters_by bytes → (quarters ≡ quarters_in bytes) × (33 ≤ length bytes)
+quarters_given bytes e =
+    let given = table_accepts _ _ e in
+    (given.1, ltb-false (length bytes) 33 (none_holds _ given.0).0)
+
+pub quarters_refused : (bytes : List ℕ) {refusal : Refusal} → Err refusal ≡ quarters_by bytes → (refusal ≡ OutOfRange) × (length bytes < 33)
+unfolding refusal_by
+quarters_refused bytes {refusal} e = go (ltb (length bytes) 33) refl (table_refuses _ _ e)
+  where
+    go : (t : Bool) → ltb (length bytes) 33 ≡ t → refusal_by (row OutOfRange t ∷ []) ≡ Some refusal → (refusal ≡ OutOfRange) × (length bytes < 33)
+    go true h e = (sym (same_Some OutOfRange refusal e), ltb-true (length bytes) 33 h)
+    go false h e = absurd (none-some refusal e)
+
+-- ---- what is opened, by the input's bytes
 
 module _ (bytes : List ℕ) where
-  -- ---- no book is opened
-
-  pub too_long : 65536 < length bytes → opening_refused 7 ≡ journal_of bytes
-  unfolding journal_of
-  too_long h = sym (gives_refusal (journal_rows bytes) _ opening_refused 7 (omega arith) (at_row 7 _ (lt-ltb 65536 (length bytes) h)))
+  pub too_long : 65536 < length bytes → Err OutOfRange ≡ opened_by bytes
+  unfolding opened_by
+  too_long h = sym (gives_refusal (journal_rows bytes) (Ok (opened_book bytes)) Err OutOfRange (at_row OutOfRange _ (lt-ltb 65536 (length bytes) h)))
 
   module _ (within : length bytes ≤ 65536) where
-    pub empty : length bytes ≡ 0 → opening_refused 1 ≡ journal_of bytes
-    unfolding journal_of
-    empty h = sym (gives_refusal (journal_rows bytes) _ opening_refused 1 (omega arith) (past_row 7 _ (le-ltb 65536 (length bytes) within) ∙ at_row 1 _ (eq-eqb (length bytes) 0 h)))
+    pub empty : length bytes ≡ 0 → Err NoRecord ≡ opened_by bytes
+    unfolding opened_by
+    empty h =
+        sym
+        (gives_refusal (journal_rows bytes) (Ok (opened_book bytes)) Err NoRecord
+        (past_row OutOfRange _ (le-ltb 65536 (length bytes) within) ∙ at_row NoRecord _ (eq-eqb (length bytes) 0 h)))
 
     module _ (some : length bytes ≡ 0 → ⊥) where
-      bad : bad_opening bytes ≡ true → opening_refused 7 ≡ journal_of bytes
-      unfolding journal_of
+      bad : bad_opening bytes ≡ true → Err OutOfRange ≡ opened_by bytes
+      unfolding opened_by
       bad h =
           sym
-          (gives_refusal (journal_rows bytes) _ opening_refused 7 (omega arith)
-          (past_row 7 _ (le-ltb 65536 (length bytes) within) ∙ past_row 1 _ (ne_eqb (length bytes) 0 some) ∙ at_row 7 _ h))
+          (gives_refusal (journal_rows bytes) (Ok (opened_book bytes)) Err OutOfRange
+          (past_row OutOfRange _ (le-ltb 65536 (length bytes) within) ∙ past_row NoRecord _ (ne_eqb (length bytes) 0 some) ∙ at_row OutOfRange _ h))
 
-      good : bad_opening bytes ≡ false → cond (opens_steam bytes) (steam_run bytes) (electric_run bytes) ≡ journal_of bytes
-      unfolding journal_of
-      good h = sym (gives_asked (journal_rows bytes) _ opening_refused (accepted (journal_rows bytes) (le-ltb 65536 (length bytes) within, (ne_eqb (length bytes) 0 some, (h, tt)))))
+      good : bad_opening bytes ≡ false → Ok (opened_book bytes) ≡ opened_by bytes
+      unfolding opened_by
+      good h = sym (gives_asked (journal_rows bytes) (Ok (opened_book bytes)) Err (accepted (journal_rows bytes) (le-ltb 65536 (length bytes) within, (ne_eqb (length bytes) 0 some, (h, tt)))))
 
       -- ---- byte 02
 
-      module _ (steam : first_byte bytes ≡ 2) where
-        pub bad_steam : bad_quarters bytes ≡ true → opening_refused 7 ≡ journal_of bytes
-        bad_steam h = bad (simp (eq-eqb (first_byte bytes) 2 steam) h)
+      module _ (is_steam : first_byte bytes ≡ 2) where
+        pub cut_short : length bytes < 33 → Err OutOfRange ≡ opened_by bytes
+        unfolding bad_quarters
+        cut_short h = bad (ap (λ (t : Bool). cond t (bad_quarters bytes) (bad_division bytes)) (eq-eqb (first_byte bytes) 2 is_steam) ∙ ap (λ (t : Bool). t || is_err (steam.opened_of (quarters_in bytes))) (lt-ltb (length bytes) 33 h))
 
-        pub steam_is : bad_quarters bytes ≡ false → steam_run bytes ≡ journal_of bytes
-        steam_is h =
-            ap (λ (t : Bool). cond t (steam_run bytes) (electric_run bytes)) (sym (eq-eqb (first_byte bytes) 2 steam))
-            ∙ good (simp (eq-eqb (first_byte bytes) 2 steam) h)
+        pub steam_refused : (refusal : Refusal) → 33 ≤ length bytes → steam.opened_of (quarters_in bytes) ≡ Err refusal → Err refusal ≡ opened_by bytes
+        unfolding bad_quarters steam.opened_of
+        steam_refused refusal h e =
+            ap Err (row_refuses OutOfRange (steam_book.fresh_of (quarters_in bytes)) _ e)
+            ∙ bad (ap (λ (t : Bool). cond t (bad_quarters bytes) (bad_division bytes)) (eq-eqb (first_byte bytes) 2 is_steam) ∙ (λ i. le-ltb (length bytes) 33 h i || is_err (e i)))
+
+        pub steam_opens : (fresh : SteamBook) → 33 ≤ length bytes → steam.opened_of (quarters_in bytes) ≡ Ok fresh → Ok (Steam fresh) ≡ opened_by bytes
+        unfolding bad_quarters
+        steam_opens fresh h e =
+            (λ i. Ok (Steam (result_unwrap_or (sym e i) (steam_book.fresh_of (four (mmbtu (pos 0)))))))
+            ∙ ap (λ (t : Bool). Ok (cond t (Steam (steam.handed_back (quarters_in bytes))) (Electric (electric.handed_back (first_byte bytes))))) (sym (eq-eqb (first_byte bytes) 2 is_steam))
+            ∙ good (ap (λ (t : Bool). cond t (bad_quarters bytes) (bad_division bytes)) (eq-eqb (first_byte bytes) 2 is_steam) ∙ (λ i. le-ltb (length bytes) 33 h i || is_err (e i)))
 
       -- ---- any other byte
 
       module _ (other : first_byte bytes ≡ 2 → ⊥) where
-        pub bad_electric : 1 < first_byte bytes → opening_refused 7 ≡ journal_of bytes
-        bad_electric h = bad (simp (ne_eqb (first_byte bytes) 2 other) (bad_division_lem bytes ∙ lt-ltb 1 (first_byte bytes) h))
+        pub electric_refused : (refusal : Refusal) → electric.opened_of (first_byte bytes) ≡ Err refusal → Err refusal ≡ opened_by bytes
+        unfolding bad_division electric.opened_of
+        electric_refused refusal e =
+            ap Err (row_refuses OutOfRange (electric.fresh_of (first_byte bytes)) _ e)
+            ∙ bad (ap (λ (t : Bool). cond t (bad_quarters bytes) (bad_division bytes)) (ne_eqb (first_byte bytes) 2 other) ∙ ap is_err e)
 
-        pub electric_is : first_byte bytes ≤ 1 → electric_run bytes ≡ journal_of bytes
-        electric_is h =
-            ap (λ (t : Bool). cond t (steam_run bytes) (electric_run bytes)) (sym (ne_eqb (first_byte bytes) 2 other))
-            ∙ good (simp (ne_eqb (first_byte bytes) 2 other) (bad_division_lem bytes ∙ le-ltb 1 (first_byte bytes) h))
+        pub electric_opens : (fresh : ElectricBook) → electric.opened_of (first_byte bytes) ≡ Ok fresh → Ok (Electric fresh) ≡ opened_by bytes
+        unfolding bad_division
+        electric_opens fresh e =
+            (λ i. Ok (Electric (result_unwrap_or (sym e i) (electric.fresh_of 0))))
+            ∙ ap (λ (t : Bool). Ok (cond t (Steam (steam.handed_back (quarters_in bytes))) (Electric (electric.handed_back (first_byte bytes))))) (sym (ne_eqb (first_byte bytes) 2 other))
+            ∙ good (ap (λ (t : Bool). cond t (bad_quarters bytes) (bad_division bytes)) (ne_eqb (first_byte bytes) 2 other) ∙ ap is_err e)
 
--- quarters that are not bad are all there
-pub quarters_there : (bytes : List ℕ) → bad_quarters bytes ≡ false → 33 ≤ length bytes
-unfolding bad_quarters
-quarters_there bytes e = go (ltb (length bytes) 33) _ refl e
+-- ---- what an opened book tells of the input
+
+-- where the records begin
+abbrev pub start_of : FreshBook → ℕ
+start_of (Electric fresh) = 1
+start_of (Steam fresh) = 33
+
+pub opened_there : (bytes : List ℕ) {book : FreshBook} → Ok book ≡ opened_by bytes → (start_of book ≤ length bytes) × (length bytes ≤ 65536)
+unfolding opened_by bad_quarters
+opened_there bytes {book} e =
+    let given = table_accepts (journal_rows bytes) (opened_book bytes) e in
+    let none = none_holds (journal_rows bytes) given.0 in
+    let some = eqb-false (length bytes) 0 none.1.0 in
+    (subst (λ (b : FreshBook). start_of b ≤ length bytes) (sym given.1) (by_byte (opens_steam bytes) (omega arith) none.1.1.0), ltb-false 65536 (length bytes) none.0)
   where
-    go : (t u : Bool) → ltb (length bytes) 33 ≡ t → t || u ≡ false → 33 ≤ length bytes
-    go true u h e = absurd (true≢false e)
-    go false u h e = ltb-false (length bytes) 33 h
+    quarters_there : (t u : Bool) → ltb (length bytes) 33 ≡ t → t || u ≡ false → 33 ≤ length bytes
+    quarters_there true u h e = absurd (true≢false e)
+    quarters_there false u h e = ltb-false (length bytes) 33 h
+
+    by_byte :
+        (t : Bool) → 1 ≤ length bytes → cond t (bad_quarters bytes) (bad_division bytes) ≡ false →
+        start_of (cond t (Steam (steam.handed_back (quarters_in bytes))) (Electric (electric.handed_back (first_byte bytes)))) ≤ length bytes
+    by_byte true some bad = quarters_there (ltb (length bytes) 33) _ refl bad
+    by_byte false some bad = some

@@ -4,24 +4,24 @@ use mathlib.Core.Bool.{Bool, true, false, cond}
 use mathlib.Core.List.{List, [], ◌++◌, append_assoc, append-nil}
 use Prim.Native.Nat.{ℕ, zero, suc, ◌+◌, ◌*◌, ◌<◌, ◌≤◌}
 use native.Mathlib.Omega.{arith}
-use lib.Dec.{eqb, leb}
+use lib.Dec.{leb}
 use lib.ListN.{length}
-use borrow.Author.Tests.{le-leb, lt-leb, eq-eqb, ne_eqb, eqb-true}
+use borrow.Author.Tests.{le-leb, lt-leb}
+use Rattle.std.specs.Prelude.{Result, Ok, Err, IfOk}
+use Rattle.refusals.specs.declared.Refusal.{Refusal}
 use Rattle.postings.specs.declared.Book.{Book}
 use Rattle.postings.specs.declared.Answer.{Answer}
-use Rattle.postings.specs.declared.Answer.TheVariants.{Refused}
 use Rattle.riders.specs.Rules.{Rules, answered_by, left_by}
-use Rattle.records.specs.declared.Read.{Read}
+use Rattle.records.specs.declared.Found.{Found}
 use Rattle.records.specs.Records.{read_of, found_on}
 use Rattle.journal.proofs.Storing.{puts_then, puts_same}
 use Rattle.journal.specs.Lines.{record_line}
-use Rattle.journal.specs.Journal.{lines_from, EnoughSteps}
+use Rattle.journal.specs.Journal.{lines_read, lines_from, EnoughSteps}
 use Rattle.journal.specs.Steps.{Puts}
 
 -- a record that was read has two bytes at least, and all its bytes remain
-pub read_on : (kinds : Book) (bytes : List ℕ) (place : ℕ) (r : Read) → r ≡ read_of kinds bytes place → r.number ≡ 0 → (place + 2 ≤ r.place) × (r.place ≤ length bytes)
-read_on kinds bytes place r e z =
-    subst (λ (r : Read). (place + 2 ≤ r.place) × (r.place ≤ length bytes)) (sym e) (found_on kinds bytes place (ap (λ (r : Read). r.number) (sym e) ∙ z))
+pub read_on : (kinds : Book) (bytes : List ℕ) (place : ℕ) {found : Found} → Ok found ≡ read_of kinds bytes place → (place + 2 ≤ found.place) × (found.place ≤ length bytes)
+read_on kinds bytes place {found} e = subst (λ (read : Result Found Refusal). IfOk read (λ (f : Found). (place + 2 ≤ f.place) × (f.place ≤ length bytes))) (sym e) (found_on kinds bytes place)
 
 module _ {B : Type 0} (kinds : Book) (rules : Rules B) (bytes : List ℕ) where
   abbrev pub lines : ℕ → B → ℕ → ℕ → List ℕ
@@ -36,55 +36,39 @@ module _ {B : Type 0} (kinds : Book) (rules : Rules B) (bytes : List ℕ) where
 
   -- ---- more steps than there are bytes change nothing
 
-  module _ (b : B) (place number : ℕ) where
-    abbrev read : Read
-    read = read_of kinds bytes place
-
-    abbrev rest : ℕ → List ℕ
-    rest more = lines more (left_by rules b read.posting) read.place (number + 1)
-
-    abbrev from : Bool → List ℕ → List ℕ
-    from found more =
-        cond (leb (length bytes) place) []
-        (cond found (record_line number read.posting.kind (answered_by rules b read.posting) ++ more) (record_line number 0 (Refused read.number)))
-
-    same_step :
-        (n m : ℕ) → length bytes ≤ place + suc n → length bytes ≤ place + suc m →
-        (length bytes ≤ read.place + n → length bytes ≤ read.place + m → rest n ≡ rest m) → lines (suc n) b place number ≡ lines (suc m) b place number
-    unfolding lines_from
-    same_step n m h k same = go (eqb read.number 0) refl
-      where
-        go : (t : Bool) → eqb read.number 0 ≡ t → from t (rest n) ≡ from t (rest m)
-        go true e =
-            let on = found_on kinds bytes place (eqb-true read.number 0 e) in
-            ap (from true) (same (omega (arith, on.0, h)) (omega (arith, on.0, k)))
-        go false e = refl
-
   same_lines : (n m : ℕ) (b : B) (place number : ℕ) → length bytes ≤ place + n → length bytes ≤ place + m → lines n b place number ≡ lines m b place number
   unfolding lines_from
   same_lines zero m b place number h k = sym (no_lines m b place number (omega arith))
   same_lines (suc n) zero b place number h k = no_lines (suc n) b place number (omega arith)
   same_lines (suc n) (suc m) b place number h k =
-      same_step b place number n m h k (same_lines n m (left_by rules b (read_of kinds bytes place).posting) (read_of kinds bytes place).place (number + 1))
+      ap (cond (leb (length bytes) place) [])
+      (go (read_of kinds bytes place) refl (λ next after l q. same_lines n m next after (number + 1) l q))
+    where
+      go :
+          (read : Result Found Refusal) → read_of kinds bytes place ≡ read →
+          ((next : B) (after : ℕ) → length bytes ≤ after + n → length bytes ≤ after + m → lines n next after (number + 1) ≡ lines m next after (number + 1)) →
+          lines_read kinds rules (λ next after. lines n next after (number + 1)) b number read ≡ lines_read kinds rules (λ next after. lines m next after (number + 1)) b number read
+      go (Ok found) e same =
+          let on = read_on kinds bytes place (sym e) in
+          ap (λ (l : List ℕ). record_line number found.posting.kind (answered_by rules b found.posting) ++ l)
+          (same (left_by rules b found.posting) found.place (omega (arith, on.0, h)) (omega (arith, on.0, k)))
+      go (Err refusal) e same = refl
 
-  module _ (more : ℕ) (b : B) (place number : ℕ) (r : Read) (e : r ≡ read_of kinds bytes place) (h : place < length bytes) where
+  module _ (more : ℕ) (b : B) (place number : ℕ) (h : place < length bytes) where
+    step : {read : Result Found Refusal} → read ≡ read_of kinds bytes place → lines (suc more) b place number ≡ lines_read kinds rules (λ next after. lines more next after (number + 1)) b number read
+    unfolding lines_from
+    step e =
+        ap (λ (t : Bool). cond t [] (lines_read kinds rules (λ next after. lines more next after (number + 1)) b number (read_of kinds bytes place))) (lt-leb (length bytes) place h)
+        ∙ ap (lines_read kinds rules (λ next after. lines more next after (number + 1)) b number) (sym e)
+
     line_read :
-        r.number ≡ 0 → (answer : Answer) → answer ≡ answered_by rules b r.posting → (next : B) → next ≡ left_by rules b r.posting →
-        lines (suc more) b place number ≡ record_line number r.posting.kind answer ++ lines more next r.place (number + 1)
-    unfolding lines_from
-    line_read z answer a next n =
-        let found : eqb (read_of kinds bytes place).number 0 ≡ _ = eq-eqb (read_of kinds bytes place).number 0 (ap (λ (r : Read). r.number) (sym e) ∙ z) in
-        let by : Read → List ℕ = λ r. record_line number r.posting.kind (answered_by rules b r.posting) ++ lines more (left_by rules b r.posting) r.place (number + 1) in
-        let step : lines (suc more) b place number ≡ by (read_of kinds bytes place) = simp (lt-leb (length bytes) place h, found) in
-        step ∙ sym (ap by e) ∙ sym (λ i. record_line number r.posting.kind (a i) ++ lines more (n i) r.place (number + 1))
+        {found : Found} → Ok found ≡ read_of kinds bytes place → (answer : Result Answer Refusal) → answer ≡ answered_by rules b found.posting →
+        (next : B) → next ≡ left_by rules b found.posting →
+        lines (suc more) b place number ≡ record_line number found.posting.kind answer ++ lines more next found.place (number + 1)
+    line_read {found} e answer a next n = step e ∙ sym (λ i. record_line number found.posting.kind (a i) ++ lines more (n i) found.place (number + 1))
 
-    line_refused : (r.number ≡ 0 → ⊥) → lines (suc more) b place number ≡ record_line number 0 (Refused r.number)
-    unfolding lines_from
-    line_refused z =
-        let none : eqb (read_of kinds bytes place).number 0 ≡ _ = ne_eqb (read_of kinds bytes place).number 0 (λ q. z (ap (λ (r : Read). r.number) e ∙ q)) in
-        let by : Read → List ℕ = λ r. record_line number 0 (Refused r.number) in
-        let step : lines (suc more) b place number ≡ by (read_of kinds bytes place) = simp (lt-leb (length bytes) place h, none) in
-        step ∙ sym (ap by e)
+    line_refused : {refusal : Refusal} → Err refusal ≡ read_of kinds bytes place → lines (suc more) b place number ≡ record_line number 0 (Err refusal)
+    line_refused e = step e
 
   -- ---- what a turn keeps
 
@@ -96,7 +80,6 @@ module _ {B : Type 0} (kinds : Book) (rules : Rules B) (bytes : List ℕ) where
     pub to_come : before ++ lines more b place number ≡ whole
     pub enough : length bytes ≤ place + more
     pub within : place ≤ length bytes
-    pub long : length out ≡ length start
     pub few : used ≤ 41 * place
     pub counted : number ≤ place
 
@@ -109,7 +92,6 @@ module _ {B : Type 0} (kinds : Book) (rules : Rules B) (bytes : List ℕ) where
         to_come = refl;
         enough = omega arith;
         within = w;
-        long = refl;
         few = omega arith;
         counted = h;
       }
@@ -119,42 +101,42 @@ module _ {B : Type 0} (kinds : Book) (rules : Rules B) (bytes : List ℕ) where
     pub ended : length bytes ≤ place → Puts whole 0 start used out
     ended h = puts_same (sym (append-nil k.before) ∙ ap (λ (l : List ℕ). k.before ++ l) (sym (no_lines k.more b place number h)) ∙ k.to_come) k.stored
 
-    module _ (r : Read) (e : r ≡ read_of kinds bytes place) (h : place < length bytes) (after : ℕ) (next-out : List ℕ) where
+    module _ (h : place < length bytes) (after : ℕ) (next-out : List ℕ) where
       -- a reading refusal ends the run
-      pub stopped : (r.number ≡ 0 → ⊥) → Puts (record_line number 0 (Refused r.number)) used out after next-out → Puts whole 0 start after next-out
-      stopped z p = go k.more refl
+      pub stopped : (refusal : Refusal) → Err refusal ≡ read_of kinds bytes place → Puts (record_line number 0 (Err refusal)) used out after next-out → Puts whole 0 start after next-out
+      stopped refusal e p = go k.more refl
         where
           go : (more : ℕ) → k.more ≡ more → Puts whole 0 start after next-out
           go zero q = absurd (omega (arith, k.enough))
           go (suc more) q =
               puts_same
-              (ap (λ (l : List ℕ). k.before ++ l) (sym (line_refused more b place number r e h z))
+              (ap (λ (l : List ℕ). k.before ++ l) (sym (line_refused more b place number h e))
               ∙ ap (λ (m : ℕ). k.before ++ lines m b place number) (sym q) ∙ k.to_come)
               (puts_then k.stored p)
 
       -- a record's line is stored, and the next book takes the next record
       pub again :
-          r.number ≡ 0 → (answer : Answer) → answer ≡ answered_by rules b r.posting → (next : B) → next ≡ left_by rules b r.posting →
-          Puts (record_line number r.posting.kind answer) used out after next-out → after ≤ used + 82 → length next-out ≡ length out →
-          Kept whole start next r.place (number + 1) after next-out
-      again z answer a next n p most long = go k.more refl
+          (found : Found) → Ok found ≡ read_of kinds bytes place → (answer : Result Answer Refusal) → answer ≡ answered_by rules b found.posting →
+          (next : B) → next ≡ left_by rules b found.posting →
+          Puts (record_line number found.posting.kind answer) used out after next-out → after ≤ used + 82 →
+          Kept whole start next found.place (number + 1) after next-out
+      again found e answer a next n p most = go k.more refl
         where
-          go : (more : ℕ) → k.more ≡ more → Kept whole start next r.place (number + 1) after next-out
+          go : (more : ℕ) → k.more ≡ more → Kept whole start next found.place (number + 1) after next-out
           go zero q = absurd (omega (arith, k.enough))
           go (suc more) q =
-              let line = record_line number r.posting.kind answer in
-              let on = read_on kinds bytes place r e z in
+              let line = record_line number found.posting.kind answer in
+              let on = read_on kinds bytes place e in
               record {
                 before = k.before ++ line;
                 more = more;
                 stored = puts_then k.stored p;
                 to_come =
-                    append_assoc k.before line (lines more next r.place (number + 1))
-                    ∙ ap (λ (l : List ℕ). k.before ++ l) (sym (line_read more b place number r e h z answer a next n))
+                    append_assoc k.before line (lines more next found.place (number + 1))
+                    ∙ ap (λ (l : List ℕ). k.before ++ l) (sym (line_read more b place number h e answer a next n))
                     ∙ ap (λ (m : ℕ). k.before ++ lines m b place number) (sym q) ∙ k.to_come;
                 enough = omega (arith, on.0, k.enough);
                 within = on.1;
-                long = long ∙ k.long;
                 few = omega (arith, on.0, k.few);
                 counted = omega (arith, on.0, k.counted);
               }

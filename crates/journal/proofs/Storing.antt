@@ -1,18 +1,25 @@
 -- Pieces stored one behind the other, where the buffer has room for them: `Puts` of a piece that went into a part of the buffer, and of two
 -- pieces, one behind the other. Assumes nothing.
 use mathlib.Core.Path.{◌≡◌, refl, sym, ap, subst, ◌∙◌}
-use mathlib.Core.List.{List, ◌++◌, append_assoc, append-nil}
+use mathlib.Core.List.{List, [], ◌++◌, append_assoc, append-nil}
 use Prim.Native.Nat.{ℕ, ◌+◌, ◌-◌, ◌<◌, ◌≤◌}
 use native.Mathlib.Omega.{arith}
 use lib.ListN.{length, take, drop, length-append, length-drop, drop_of_length-le}
 use lib.Seq.{sets, sets-eq, length-sets, take_all, drop-drop}
-use borrow.Author.Tests.{lt-ltb, le-ltb}
-use Rattle.refusals.proofs.TableLaws.{row_passed, row_holds}
 use Rattle.refusals.specs.Stores.{sets_append, sets_front}
-use Rattle.refusals.specs.Writer.{wrote, writer_refused}
-use Rattle.amounts.specs.Text.{text_written, text_left}
+use Rattle.amounts.specs.Text.{text_rows, text_written, text_left}
+use Rattle.std.specs.Prelude.{Ok, Err}
+use Rattle.refusals.specs.Writer.{too_short}
+use Rattle.refusals.specs.declared.Refusal.TheVariants.{BufferTooShort}
+use Rattle.refusals.proofs.TableLaws.{at_row, accepted}
+use Rattle.refusals.proofs.WriterLaws.{writer_refuses, writer_accepts}
+use borrow.Author.Tests.{lt-ltb, le-ltb}
 use Rattle.journal.specs.Steps.{Puts}
-use Rattle.amounts.proofs.Texts as texts
+
+-- a text that fits is left in the buffer
+stored_left : (text buffer after : List ℕ) → length text ≤ length buffer → after ≡ sets buffer 0 text → after ≡ text_left text buffer
+unfolding text_left too_short
+stored_left text buffer after h s = (writer_accepts (text_rows text buffer) text buffer after (length text) (accepted (text_rows text buffer) (le-ltb (length buffer) (length text) h, tt)) h refl s).1
 
 -- a text that was put into the part from `start` on, which is from `used` on where that is within the buffer
 module _ (l text part : List ℕ) (used start n : ℕ) where
@@ -30,7 +37,7 @@ module _ (l text part : List ℕ) (used start n : ℕ) where
           let fits : length text ≤ length rest = omega arith in
           let put : part ≡ text ++ drop (length text) rest =
           left ∙ (λ i. text_left text (take (length l - e i) (drop (e i) l))) ∙ ap (text_left text) whole
-          ∙ sym (texts.stored text rest (sets rest 0 text) fits refl) ∙ sets_front rest text fits in
+          ∙ sym (stored_left text rest (sets rest 0 text) fits refl) ∙ sets_front rest text fits in
           let none : drop (length l - used) rest ≡ _ = drop_of_length-le rest {i = length l - used} (omega arith) in
           (λ i. take (e i) l ++ (put i ++ drop (length l - e i) (drop (e i) l)))
           ∙ ap (λ (z : List ℕ). take used l ++ (text ++ drop (length text) rest ++ z)) none
@@ -53,22 +60,23 @@ puts_then {xs} {ys} {l} {m} {n} {used} {next} {after} p q =
         let long : length m ≡ length l = ap length e ∙ length-sets l used xs in
         q.stored (omega arith) ∙ (λ i. sets (e i) (first i) ys) ∙ sym (sets_append l used xs ys)
 
+-- two pieces behind one
+pub puts_two : {xs l m n : List ℕ} (ys zs : List ℕ) {used next after : ℕ} → Puts xs used l next m → Puts (ys ++ zs) next m after n → Puts (xs ++ ys ++ zs) used l after n
+puts_two {xs} {l} {n = n} ys zs {used} {after = after} p q = subst (λ (bytes : List ℕ). Puts bytes used l after n) (sym (append_assoc xs ys zs)) (puts_then p q)
+
 -- the same bytes under another name
 pub puts_same : {xs ys l m : List ℕ} {used after : ℕ} → xs ≡ ys → Puts xs used l after m → Puts ys used l after m
 puts_same {xs} {ys} {l} {m} {used} {after} e p = subst (λ (zs : List ℕ). Puts zs used l after m) e p
 
 -- ---- the answer of the writer of a text
 
-module _ (text buffer : List ℕ) (n : ℕ) (e : n ≡ length text) where
-  pub short : length buffer < n → (writer_refused 13 ≡ text_written text buffer) × (buffer ≡ text_left text buffer)
-  short h = (
-    sym (row_holds 13 (wrote n) writer_refused (omega arith) (lt-ltb (length buffer) n h)) ∙ texts.answered text buffer n (length buffer) e refl,
-    texts.kept text buffer (omega arith),
-  )
+pub short : (text buffer : List ℕ) (n : ℕ) → n ≡ length text → length buffer < n → (Err BufferTooShort ≡ text_written text buffer) × (buffer ≡ text_left text buffer)
+unfolding text_written text_left too_short
+short text buffer n e h = writer_refuses (text_rows text buffer) text buffer BufferTooShort (at_row BufferTooShort [] (lt-ltb (length buffer) (length text) (omega arith)))
 
-pub whole : (text buffer after : List ℕ) (n : ℕ) → Puts text 0 buffer n after → n ≤ length buffer → (wrote n ≡ text_written text buffer) × (after ≡ text_left text buffer)
+pub whole : (text buffer after : List ℕ) (n : ℕ) → Puts text 0 buffer n after → n ≤ length buffer → (Ok n ≡ text_written text buffer) × (after ≡ text_left text buffer)
+unfolding text_written text_left too_short
 whole text buffer after n p h =
-    let e : n ≡ length text = omega (arith, p.counted) in (
-      sym (row_passed 13 (wrote n) writer_refused (le-ltb (length buffer) n h)) ∙ texts.answered text buffer n (length buffer) e refl,
-      texts.stored text buffer after (omega arith) (p.stored (omega arith)),
-    )
+    let e : n ≡ length text = omega (arith, p.counted) in
+    let fits : length text ≤ length buffer = omega arith in
+    writer_accepts (text_rows text buffer) text buffer after n (accepted (text_rows text buffer) (le-ltb (length buffer) (length text) fits, tt)) fits e (p.stored (omega arith))

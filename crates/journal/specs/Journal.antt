@@ -1,17 +1,18 @@
 -- What the journal program prints for an input (01, Text and the journal program).
-use Rattle.std.specs.Prelude.{◌≡◌, Bool, cond, not, ◌||◌, List, [], ◌∷◌, ◌++◌, ℕ, zero, suc, ◌+◌, ◌*◌, ◌≤◌, eqb, leb, ltb, length, get_or, drop}
+use Rattle.std.specs.Prelude.{◌≡◌, Bool, cond, ◌||◌, List, [], ◌∷◌, ◌++◌, ℕ, zero, suc, ◌+◌, ◌*◌, ◌≤◌, eqb, leb, ltb, length, get_or, drop, Result, Ok, Err, is_err}
 use Rattle.refusals.specs.Rows.{Row, row, by_table}
+use Rattle.refusals.specs.declared.Refusal.{Refusal}
+use Rattle.refusals.specs.declared.Refusal.TheVariants.{NoRecord, OutOfRange}
 use Rattle.postings.specs.declared.Book.{Book}
 use Rattle.postings.specs.declared.Book.TheVariants.{Electric, Steam}
-use Rattle.postings.specs.declared.Answer.TheVariants.{Refused}
 use Rattle.riders.specs.Rules.{Rules, answered_by, left_by}
-use Rattle.riders.specs.Histories.{was_accepted}
 use Rattle.electric_rules.specs.declared.ElectricBook.{ElectricBook}
 use Rattle.steam_rules.specs.declared.Mmbtu.{Mmbtu}
 use Rattle.steam_rules.specs.declared.SteamBook.{SteamBook}
 use Rattle.steam_rules.specs.Book.{mmbtu}
 use Rattle.records.specs.Fields.{field_of}
 use Rattle.records.specs.Records.{read_of}
+use Rattle.records.specs.declared.Found.{Found}
 use Rattle.journal.specs.Lines.{record_line, opening_refused}
 use Rattle.electric_rules.specs.Book as electric_opening
 use Rattle.electric_rules.specs.Refusals as electric
@@ -21,17 +22,18 @@ use Rattle.steam_rules.specs.Refusals as steam
 -- ---- the records, for any book: its kinds and its rules
 
 module _ {B : Type 0} (kinds : Book) (rules : Rules B) where
+  -- the line of what was read, and behind that of a record the lines that `more` gives for the next book and place
+  abbrev pub lines_read : (B → ℕ → List ℕ) → B → ℕ → Result Found Refusal → List ℕ
+  lines_read more b number (Ok found) = record_line number found.posting.kind (answered_by rules b found.posting) ++ more (left_by rules b found.posting) found.place
+  lines_read more b number (Err refusal) = record_line number 0 (Err refusal)
+
   -- the lines of the records from a place on, the next of them of this number. Where no byte remains the run ends without a line; a
   -- reading refusal prints kind 0 and ends the run. At most `more` records are read.
   unfoldable pub lines_from : ℕ → B → List ℕ → ℕ → ℕ → List ℕ
   lines_from zero b bytes place number = []
   lines_from (suc more) b bytes place number =
-      let read = read_of kinds bytes place in
-      let posting = read.posting in
       cond (leb (length bytes) place) []
-      (cond (eqb read.number 0)
-      (record_line number posting.kind (answered_by rules b posting) ++ lines_from more (left_by rules b posting) bytes read.place (number + 1))
-      (record_line number 0 (Refused read.number)))
+      (lines_read (λ next after. lines_from more next bytes after (number + 1)) b number (read_of kinds bytes place))
 
   -- more steps change nothing: any two counts that are as many as the bytes that remain give the same lines. Proved in proofs/Running.antt.
   abbrev pub EnoughSteps : Type 0
@@ -61,26 +63,26 @@ opens_steam bytes = eqb (first_byte bytes) 2
 
 -- bad is an opening that the book refuses; behind 02 also one that is cut short
 unfoldable pub bad_quarters : List ℕ → Bool
-bad_quarters bytes = ltb (length bytes) 33 || not (was_accepted (steam_opening.opened_of (quarters_in bytes)).answer)
+bad_quarters bytes = ltb (length bytes) 33 || is_err (steam_opening.opened_of (quarters_in bytes))
 
 unfoldable pub bad_division : List ℕ → Bool
-bad_division bytes = not (was_accepted (electric_opening.opened_of (first_byte bytes)).answer)
+bad_division bytes = is_err (electric_opening.opened_of (first_byte bytes))
 
 abbrev pub bad_opening : List ℕ → Bool
 bad_opening bytes = cond (opens_steam bytes) (bad_quarters bytes) (bad_division bytes)
 
 -- the lines of the records behind the opening
 abbrev pub electric_run : List ℕ → List ℕ
-electric_run bytes = electric_lines (electric_opening.opened_of (first_byte bytes)).book bytes 1
+electric_run bytes = electric_lines (electric_opening.handed_back (first_byte bytes)) bytes 1
 
 abbrev pub steam_run : List ℕ → List ℕ
-steam_run bytes = steam_lines (steam_opening.opened_of (quarters_in bytes)).book bytes 33
+steam_run bytes = steam_lines (steam_opening.handed_back (quarters_in bytes)) bytes 33
 
 -- ---- the whole
 
 -- at most 65,536 bytes; a longer input or a bad opening prints `refused 7`, an empty one `refused 1`
 abbrev pub journal_rows : List ℕ → List Row
-journal_rows bytes = row 7 (ltb 65536 (length bytes)) ∷ row 1 (eqb (length bytes) 0) ∷ row 7 (bad_opening bytes) ∷ []
+journal_rows bytes = row OutOfRange (ltb 65536 (length bytes)) ∷ row NoRecord (eqb (length bytes) 0) ∷ row OutOfRange (bad_opening bytes) ∷ []
 
 unfoldable pub journal_of : List ℕ → List ℕ
 journal_of bytes = by_table (journal_rows bytes) (cond (opens_steam bytes) (steam_run bytes) (electric_run bytes)) opening_refused

@@ -1,10 +1,11 @@
 -- A line of the journal (01, Text and the journal program): fields are parted by one blank, and the line ends in a line feed.
-use Rattle.std.specs.Prelude.{List, [], ◌∷◌, ◌++◌, ℕ}
+use Rattle.std.specs.Prelude.{List, [], ◌∷◌, ◌++◌, ℕ, Result, Ok, Err}
 use Prim.Native.Char.{code}
+use Rattle.refusals.specs.declared.Refusal.{Refusal}
 use Rattle.amounts.specs.Text.{decimal, cents_text, points_text}
 use Rattle.postings.specs.Answers.{Amount, in_cents, in_points, answer_number, answer_amounts}
 use Rattle.postings.specs.declared.Answer.{Answer}
-use Rattle.postings.specs.declared.Answer.TheVariants.{Line, FiledLevels, Filed, Interest, Done, Refused}
+use Rattle.postings.specs.declared.Answer.TheVariants.{Line, FiledLevels, Filed, Interest, Done}
 use Prim.Native.String as text
 
 -- the characters of a text, as their ASCII codes
@@ -13,13 +14,13 @@ ascii text.[] = []
 ascii (text.◌∷◌ c more) = code c ∷ ascii more
 
 -- an answer's word; that of a refusal has the number behind it
-abbrev pub answer_word : Answer → List ℕ
-answer_word (Line cents) = ascii "line"
-answer_word (FiledLevels secondary primary) = ascii "filed"
-answer_word (Filed points) = ascii "filed"
-answer_word (Interest secondary primary) = ascii "interest"
-answer_word Done = ascii "done"
-answer_word (Refused n) = ascii "refused " ++ decimal (answer_number (Refused n))
+abbrev pub answer_word : Result Answer Refusal → List ℕ
+answer_word (Ok (Line cents)) = ascii "line"
+answer_word (Ok (FiledLevels secondary primary)) = ascii "filed"
+answer_word (Ok (Filed points)) = ascii "filed"
+answer_word (Ok (Interest secondary primary)) = ascii "interest"
+answer_word (Ok Done) = ascii "done"
+answer_word (Err refusal) = ascii "refused " ++ decimal (answer_number (Err refusal))
 
 abbrev pub amount_text : Amount → List ℕ
 amount_text (in_cents cents) = cents_text cents
@@ -31,13 +32,13 @@ parted before [] = before
 parted before (amount ∷ amounts) = parted (before ++ ascii " " ++ amount_text amount) amounts
 
 -- `line` with cents, `filed` with q for each level, `interest` for both levels, `done`, or `refused` with the number; secondary first
-unfoldable pub answer_text : Answer → List ℕ
+abbrev pub answer_text : Result Answer Refusal → List ℕ
 answer_text answer = parted (answer_word answer) (answer_amounts answer)
 
 -- a record prints its number, its kind in decimal and the answer
-unfoldable pub record_line : ℕ → ℕ → Answer → List ℕ
+unfoldable pub record_line : ℕ → ℕ → Result Answer Refusal → List ℕ
 record_line number kind answer = decimal number ++ ascii " " ++ decimal kind ++ ascii " " ++ answer_text answer ++ ascii "\n"
 
 -- what is printed for an input that opens no book
-unfoldable pub opening_refused : ℕ → List ℕ
-opening_refused n = answer_text (Refused n) ++ ascii "\n"
+unfoldable pub opening_refused : Refusal → List ℕ
+opening_refused refusal = answer_text (Err refusal) ++ ascii "\n"

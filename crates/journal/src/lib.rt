@@ -6,15 +6,14 @@ ghost use Rattle.amounts.specs.Text.{text_written, text_left};
 ghost use Rattle.journal.specs.Journal.{journal_of, room_of};
 ghost use Rattle.journal.specs.Steps.{Puts};
 
-use electric_rules::ElectricBook;
-use refusals::Written;
-use steam_rules::SteamBook;
+use page::Page;
+use refusals::Refusal;
 
-mod electric_run;
 mod lines;
 mod opening;
+mod page;
 mod pieces;
-mod steam_run;
+mod run;
 
 // The most bytes of an input; a longer one is refused.
 pub const MOST_BYTES: usize = 65_536;
@@ -35,25 +34,9 @@ fn room_for(bytes: usize) -> usize
 fn put_journal(input: &[u8], buffer: &mut [u8]) -> usize
     ensures { Puts (journal_of input.now) 0 buffer.old result buffer.new × (result ≤ room_of (length input.now)) }
 {
-    if MOST_BYTES < input.len() {
-        return lines::put_refused(buffer, 7);
-    }
-    if input.len() == 0 {
-        return lines::put_refused(buffer, 1);
-    }
-    let first = input[0];
-    if first == 2 {
-        if opening::bad_quarters(input) {
-            return lines::put_refused(buffer, 7);
-        }
-        let opened = SteamBook::open(opening::quarters_in(input));
-        return steam_run::run(opened.book, input, buffer);
-    }
-    if ElectricBook::LAST_DIVISION < first {
-        return lines::put_refused(buffer, 7);
-    }
-    let opened = ElectricBook::open(first);
-    electric_run::run(opened.book, input, buffer)
+    let mut page = Page::new(buffer);
+    page.put_journal(input);
+    page.used
 }
 
 // How many bytes the journal of the input is, which is no more than there is room enough for.
@@ -67,23 +50,11 @@ pub fn printed_length(input: &[u8]) -> usize
 
 // Writes the journal of the input into the buffer: how many bytes, or refusal 13 with the buffer as it was. Its length is counted first
 // only where the buffer might be too short.
-pub fn write(input: &[u8], buffer: &mut [u8]) -> Written
+pub fn write(input: &[u8], buffer: &mut [u8]) -> Result<usize, Refusal>
     ensures { (result ≡ text_written (journal_of input.now) buffer.old) × (buffer.new ≡ text_left (journal_of input.now) buffer.old) }
 {
-    if room_for(input.len()) <= buffer.len() {
-        return Written {
-            number: 0,
-            length: put_journal(input, buffer),
-        };
+    if buffer.len() < room_for(input.len()) && buffer.len() < printed_length(input) {
+        return Err(Refusal::BufferTooShort);
     }
-    if buffer.len() < printed_length(input) {
-        return Written {
-            number: 13,
-            length: 0,
-        };
-    }
-    Written {
-        number: 0,
-        length: put_journal(input, buffer),
-    }
+    Ok(put_journal(input, buffer))
 }

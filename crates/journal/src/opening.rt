@@ -1,28 +1,44 @@
-// The opening of a steam book: four quarters behind the byte 02.
-ghost use Rattle.std.specs.Prelude.{◌≡◌, ◌≤◌, length};
-ghost use Rattle.journal.specs.Journal.{quarters_in, bad_quarters};
+// The opening of a journal: which book it names.
+ghost use Rattle.std.specs.Prelude.{◌≡◌, [], ◌∷◌, ltb, length, Ok, Err};
+ghost use Rattle.refusals.specs.Rows.{row, by_table};
+ghost use Rattle.journal.specs.Journal.{quarters_in};
+ghost use Rattle.journal.specs.Steps.{opened_by};
 
-use steam_rules::Mmbtu;
+use electric_rules::ElectricBook;
+use refusals::Refusal;
+use steam_rules::{Mmbtu, SteamBook};
 
-// The quarters, oldest first.
-pub(crate) fn quarters_in(input: &[u8]) -> [Mmbtu; 4]
-    requires { 33 ≤ length input.now }
-    ensures { result ≡ quarters_in input.now }
+// The fresh book that is opened.
+#[derive(Clone, Copy)]
+pub(crate) enum FreshBook {
+    Electric(ElectricBook),
+    Steam(SteamBook),
+}
+
+// The quarters behind byte 02, oldest first, where they are all there.
+fn quarters(input: &[u8]) -> Result<[Mmbtu; 4], Refusal>
+    ensures { result ≡ by_table (row Refusal.OutOfRange (ltb (length input.now) 33) ∷ []) (Ok (quarters_in input.now)) Err }
 {
-    [
+    if input.len() < 33 {
+        return Err(Refusal::OutOfRange);
+    }
+    Ok([
         Mmbtu(records::read_field(input, 1)),
         Mmbtu(records::read_field(input, 9)),
         Mmbtu(records::read_field(input, 17)),
         Mmbtu(records::read_field(input, 25)),
-    ]
+    ])
 }
 
-// Whether they are cut short or out of range.
-pub(crate) fn bad_quarters(input: &[u8]) -> bool
-    ensures { result ≡ bad_quarters input.now }
+pub(crate) fn opened(input: &[u8]) -> Result<FreshBook, Refusal>
+    ensures { result ≡ opened_by input.now }
 {
-    if input.len() < 33 {
-        return true;
+    if crate::MOST_BYTES < input.len() {
+        return Err(Refusal::OutOfRange);
     }
-    !steam_rules::quarters_in_limits(quarters_in(input))
+    match input {
+        [] => Err(Refusal::NoRecord),
+        [2, ..] => Ok(FreshBook::Steam(SteamBook::open(quarters(input)?)?)),
+        [division, ..] => Ok(FreshBook::Electric(ElectricBook::open(*division)?)),
+    }
 }

@@ -1,105 +1,99 @@
 -- How many bit maps a kind of either book may have, and what that number tells. Assumes nothing.
 use mathlib.Core.Path.{◌≡◌, refl, sym, ap, ◌∙◌}
-use mathlib.Core.Bool.{Bool, true, false, cond, true≢false}
-use mathlib.Core.Option.{Option, none, some}
+use mathlib.Core.Bool.{Bool, true, false, not, true≢false}
 use mathlib.Core.List.{List, []}
-use Prim.Native.Nat.{ℕ, ◌*◌, ◌/◌, ◌%◌, ◌^◌, ◌<◌, ◌≤◌}
+use Prim.Native.Nat.{ℕ, ◌^◌, ◌<◌, ◌≤◌}
 use native.Mathlib.Omega.{arith}
-use native.Mathlib.Nat.{one-le-pow}
-use lib.Dec.{eqb, leb, eqb→eq, leb→le, lit<}
-use lib.ListN.{length, get_or-eq_default}
-use borrow.Author.Tests.{eqb-true, eqb-false, le-leb, lt-leb, leb-true, leb-false}
-use Rattle.ints.specs.Flags.{all_below_lem}
+use lib.Dec.{leb}
+use lib.ListN.{length}
+use borrow.Author.Tests.{le-leb, lt-leb, leb-false}
+use Rattle.std.specs.Prelude.{Option, Some, None, is_some, is_none, option_map, IfSome}
+use Rattle.std.proofs.lemmas.Option.{none-some, same_Some}
 use Rattle.postings.proofs.BitMaps.{beyond}
-use Rattle.postings.specs.Kinds.{Field, or_none, Kind, unknown, kinds, kind_of, table_of, is_none, fields_of, unknown_kind, stands_beyond}
-use Rattle.postings.specs.BitMaps.{bit_map_of, maps_of, packed_of}
+use Rattle.postings.specs.Kinds.{Field, or_none, kind_of, by_kind, table_of, fields_of, unknown_kind, stands_beyond}
+use Rattle.postings.specs.declared.kinds.Kind.{Kind}
+use Rattle.postings.specs.declared.kinds.Kind.TheVariants.{Cost, Sales, Bill, Settle, MonthEnd, Adjust, Reconcile, Unknown}
+use Rattle.postings.specs.BitMaps.{bit_map_of, maps_of}
 use Rattle.postings.specs.declared.Book.{Book}
 use Rattle.postings.specs.declared.Book.TheVariants.{Electric, Steam}
 
--- past the table no kind is known
-pub unknown_past : (book : Book) (kind : ℕ) → 8 ≤ kind → unknown_kind book kind ≡ true
-unfolding unknown_kind kind_of
-unknown_past Electric kind h = ap (λ (k : Kind). is_none (table_of Electric k)) (get_or-eq_default kinds unknown h)
-unknown_past Steam kind h = ap (λ (k : Kind). is_none (table_of Steam k)) (get_or-eq_default kinds unknown h)
-
-pub maps_past : (book : Book) (kind : ℕ) → 8 ≤ kind → 0 ≡ maps_of book kind
-unfolding maps_of
-maps_past book kind h = sym (ap (λ (t : Bool). cond t 0 (2 ^ length (fields_of book kind))) (unknown_past book kind h))
-
--- the code's table, each of its bytes compared with the definition: the tests compute
-pub packed_maps : (book : Book) (kind : ℕ) → kind < 8 → packed_of book / 2 ^ (8 * kind) % 256 ≡ maps_of book kind
-unfolding maps_of unknown_kind fields_of kind_of
-packed_maps Electric kind h = eqb→eq _ _ (all_below_lem 8 (λ (k : ℕ). eqb (packed_of Electric / 2 ^ (8 * k) % 256) (maps_of Electric k)) tt kind h)
-packed_maps Steam kind h = eqb→eq _ _ (all_below_lem 8 (λ (k : ℕ). eqb (packed_of Steam / 2 ^ (8 * k) % 256) (maps_of Steam k)) tt kind h)
-
-maps_few : (book : Book) (kind : ℕ) → kind < 8 → maps_of book kind ≤ 8
-unfolding maps_of unknown_kind fields_of kind_of
-maps_few Electric kind h = leb→le _ _ (all_below_lem 8 (λ (k : ℕ). leb (maps_of Electric k) 8) tt kind h)
-maps_few Steam kind h = leb→le _ _ (all_below_lem 8 (λ (k : ℕ). leb (maps_of Steam k) 8) tt kind h)
-
--- ---- what the number of bit maps tells
+-- any other number is of no kind
+pub no_kind : (n : ℕ) → (1 ≤ n → n ≤ 7 → ⊥) → kind_of n ≡ Unknown
+no_kind =
+    by_kind (λ n kind. (1 ≤ n → n ≤ 7 → ⊥) → kind ≡ Unknown)
+    (λ f. absurd (f (omega arith) (omega arith))) (λ f. absurd (f (omega arith) (omega arith))) (λ f. absurd (f (omega arith) (omega arith)))
+    (λ f. absurd (f (omega arith) (omega arith))) (λ f. absurd (f (omega arith) (omega arith))) (λ f. absurd (f (omega arith) (omega arith)))
+    (λ f. absurd (f (omega arith) (omega arith))) (λ n f. refl)
 
 module _ (book : Book) (kind : ℕ) where
-  pub maps_none : maps_of book kind ≡ 0 → unknown_kind book kind ≡ true
-  unfolding maps_of
-  maps_none e = go (unknown_kind book kind) refl
-    where
-      go : (t : Bool) → unknown_kind book kind ≡ t → unknown_kind book kind ≡ true
-      go true u = u
-      go false u =
-          let p : 2 ^ length (fields_of book kind) ≡ 0 = sym (ap (λ (t : Bool). cond t 0 (2 ^ length (fields_of book kind))) u) ∙ e in
-          absurd (omega (arith, one-le-pow (length (fields_of book kind)) 2 (lit< tt)))
-
-  pub maps_some : 0 < maps_of book kind → unknown_kind book kind ≡ false
-  unfolding maps_of
-  maps_some h = go (unknown_kind book kind) refl
-    where
-      go : (t : Bool) → unknown_kind book kind ≡ t → unknown_kind book kind ≡ false
-      go true u =
-          let z : 0 ≡ maps_of book kind = sym (ap (λ (t : Bool). cond t 0 (2 ^ length (fields_of book kind))) u) in
-          absurd (omega arith)
-      go false u = u
-
-  pub maps_test : eqb (maps_of book kind) 0 ≡ unknown_kind book kind
-  maps_test = go (eqb (maps_of book kind) 0) refl
-    where
-      go : (t : Bool) → eqb (maps_of book kind) 0 ≡ t → eqb (maps_of book kind) 0 ≡ unknown_kind book kind
-      go true e = e ∙ sym (maps_none (eqb-true (maps_of book kind) 0 e))
-      go false e =
-          let h : 0 < maps_of book kind = omega (arith, eqb-false (maps_of book kind) 0 e) in
-          e ∙ sym (maps_some h)
-
-  pub no_fields : unknown_kind book kind ≡ true → fields_of book kind ≡ []
+  -- where there is no number of bit maps the kind is unknown, and has no field
+  pub maps_none : maps_of book (kind_of kind) ≡ None → (unknown_kind book kind ≡ true) × (fields_of book kind ≡ [])
   unfolding unknown_kind fields_of
-  no_fields u = go (table_of book (kind_of kind)) u
+  maps_none e = go (table_of book (kind_of kind)) e
     where
-      go : (o : Option (List Field)) → is_none o ≡ true → or_none o ≡ []
-      go none e = refl
-      go (some fields) e = absurd (true≢false (sym e))
+      go : (o : Option (List Field)) → option_map (λ (fields : List Field). 2 ^ length fields) o ≡ None → (is_none o ≡ true) × (or_none o ≡ [])
+      go None e = (refl, refl)
+      go (Some fields) e = absurd (none-some (2 ^ length fields) (sym e))
 
-  pub maps_are : unknown_kind book kind ≡ false → maps_of book kind ≡ 2 ^ length (fields_of book kind)
-  unfolding maps_of
-  maps_are u = ap (λ (t : Bool). cond t 0 (2 ^ length (fields_of book kind))) u
-
-  -- no kind has more than three fields
-  pub maps_most : maps_of book kind ≤ 8
-  maps_most = go (leb 8 kind) refl
+  -- where there is one the kind is known, and it is 2 to the number of fields
+  pub maps_some : (maps : ℕ) → maps_of book (kind_of kind) ≡ Some maps → (unknown_kind book kind ≡ false) × (maps ≡ 2 ^ length (fields_of book kind))
+  unfolding unknown_kind fields_of
+  maps_some maps e = go (table_of book (kind_of kind)) e
     where
-      go : (t : Bool) → leb 8 kind ≡ t → maps_of book kind ≤ 8
-      go true e = omega (arith, maps_past book kind (leb-true 8 kind e))
-      go false e = maps_few book kind (leb-false 8 kind e)
+      go : (o : Option (List Field)) → option_map (λ (fields : List Field). 2 ^ length fields) o ≡ Some maps → (is_none o ≡ false) × (maps ≡ 2 ^ length (or_none o))
+      go None e = absurd (none-some maps e)
+      go (Some fields) e = (refl, sym (same_Some _ _ e))
+
+  -- as the test of an option answers
+  pub maps_test : (t : Bool) → is_some (maps_of book (kind_of kind)) ≡ not t → t ≡ unknown_kind book kind
+  unfolding unknown_kind
+  maps_test t = go (table_of book (kind_of kind)) t
+    where
+      go : (o : Option (List Field)) (t : Bool) → is_some (option_map (λ (fields : List Field). 2 ^ length fields) o) ≡ not t → t ≡ is_none o
+      go None true e = refl
+      go None false e = e
+      go (Some fields) true e = e
+      go (Some fields) false e = refl
+
+  -- a known kind has a number of bit maps
+  pub maps_known : unknown_kind book kind ≡ false → maps_of book (kind_of kind) ≡ Some (2 ^ length (fields_of book kind))
+  unfolding unknown_kind fields_of
+  maps_known e = go (table_of book (kind_of kind)) e
+    where
+      go : (o : Option (List Field)) → is_none o ≡ false → option_map (λ (fields : List Field). 2 ^ length fields) o ≡ Some (2 ^ length (or_none o))
+      go None e = absurd (true≢false e)
+      go (Some fields) e = refl
 
   -- a bit that the kind lacks makes a map too large
-  module _ (bits : List Bool) (known : unknown_kind book kind ≡ false) where
-    pub lacks : stands_beyond (fields_of book kind) bits ≡ leb (maps_of book kind) (bit_map_of bits)
+  module _ (bits : List Bool) (maps : ℕ) (known : maps_of book (kind_of kind) ≡ Some maps) where
+    pub lacks : stands_beyond (fields_of book kind) bits ≡ leb maps (bit_map_of bits)
     unfolding stands_beyond
-    lacks = beyond (length (fields_of book kind)) bits ∙ ap (λ (n : ℕ). leb n (bit_map_of bits)) (sym (maps_are known))
+    lacks = beyond (length (fields_of book kind)) bits ∙ ap (λ (n : ℕ). leb n (bit_map_of bits)) (sym (maps_some maps known).1)
 
-    pub stands_beyond_lem : maps_of book kind ≤ bit_map_of bits → stands_beyond (fields_of book kind) bits ≡ true
-    stands_beyond_lem h = lacks ∙ le-leb (maps_of book kind) (bit_map_of bits) h
+    pub stands_beyond_lem : maps ≤ bit_map_of bits → stands_beyond (fields_of book kind) bits ≡ true
+    stands_beyond_lem h = lacks ∙ le-leb maps (bit_map_of bits) h
 
-    pub none_beyond : bit_map_of bits < maps_of book kind → stands_beyond (fields_of book kind) bits ≡ false
-    none_beyond h = lacks ∙ lt-leb (maps_of book kind) (bit_map_of bits) h
+    pub none_beyond : bit_map_of bits < maps → stands_beyond (fields_of book kind) bits ≡ false
+    none_beyond h = lacks ∙ lt-leb maps (bit_map_of bits) h
 
-    pub small_map : stands_beyond (fields_of book kind) bits ≡ false → bit_map_of bits < maps_of book kind
-    small_map e = leb-false (maps_of book kind) (bit_map_of bits) (sym lacks ∙ e)
+    pub small_map : stands_beyond (fields_of book kind) bits ≡ false → bit_map_of bits < maps
+    small_map e = leb-false maps (bit_map_of bits) (sym lacks ∙ e)
+
+-- no kind has more than three fields
+pub maps_most : (book : Book) (kind : Kind) → IfSome (maps_of book kind) (λ (maps : ℕ). maps ≤ 8)
+maps_most Electric Unknown = tt
+maps_most Electric Cost = omega arith
+maps_most Electric Sales = omega arith
+maps_most Electric Bill = omega arith
+maps_most Electric Settle = omega arith
+maps_most Electric MonthEnd = omega arith
+maps_most Electric Adjust = omega arith
+maps_most Electric Reconcile = tt
+maps_most Steam Unknown = tt
+maps_most Steam Cost = omega arith
+maps_most Steam Sales = omega arith
+maps_most Steam Bill = omega arith
+maps_most Steam Settle = omega arith
+maps_most Steam MonthEnd = omega arith
+maps_most Steam Adjust = omega arith
+maps_most Steam Reconcile = omega arith

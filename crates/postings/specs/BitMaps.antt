@@ -1,9 +1,9 @@
 -- Bit maps (01, Posting records): which numbers of a posting stand, and how many maps the records of a kind may have.
-use Rattle.std.specs.Prelude.{Bool, cond, List, [], ◌∷◌, ℕ, zero, suc, ◌+◌, ◌*◌, ◌/◌, ◌%◌, ◌^◌, eqb, ℤ, pos, length}
+use Rattle.std.specs.Prelude.{Bool, cond, List, [], ◌∷◌, ℕ, zero, suc, ◌+◌, ◌*◌, ◌/◌, ◌%◌, ◌^◌, eqb, ℤ, pos, length, Option, option_map}
 use Rattle.ints.specs.Machine.{eq_z}
-use Rattle.postings.specs.Kinds.{fields_of, unknown_kind}
+use Rattle.postings.specs.Kinds.{Field, table_of}
 use Rattle.postings.specs.declared.Book.{Book}
-use Rattle.postings.specs.declared.Book.TheVariants.{Electric, Steam}
+use Rattle.postings.specs.declared.kinds.Kind.{Kind}
 
 -- the bits of a number, from the lowest
 unfoldable pub bits_from : ℕ → ℕ → List Bool
@@ -20,10 +20,5 @@ unfoldable pub bit_of : ℤ → ℕ
 bit_of z = cond (eq_z z (pos 0)) 0 1
 
 -- how many bit maps the records of a kind may have; none of a kind that the book lacks
-unfoldable pub maps_of : Book → ℕ → ℕ
-maps_of book kind = cond (unknown_kind book kind) 0 (2 ^ length (fields_of book kind))
-
--- the code's table of these numbers: a byte a kind, that of kind 0 lowest
-abbrev pub packed_of : Book → ℕ
-packed_of Electric = 0x00_04_02_04_04_04_08_00
-packed_of Steam = 0x04_04_01_02_02_02_02_00
+abbrev pub maps_of : Book → Kind → Option ℕ
+maps_of book kind = option_map (λ (fields : List Field). 2 ^ length fields) (table_of book kind)

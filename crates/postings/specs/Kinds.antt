@@ -1,13 +1,14 @@
 -- Kinds of postings and their fields (01, Posting records): one table a book, from which the reader, the writer and refusals 2, 3 and 7
 -- are worked out.
-use Rattle.std.specs.Prelude.{◌≡◌, Bool, true, false, not, ◌&&◌, ◌||◌, List, [], ◌∷◌, map, ℕ, zero, suc, ◌^◌, ◌<◌, eqb, ℤ, pos, neg_ℤ, length, get_or, drop}
+use Rattle.std.specs.Prelude.{◌≡◌, Bool, true, false, not, ◌&&◌, ◌||◌, List, [], ◌∷◌, map, ℕ, zero, suc, ◌^◌, ◌<◌, eqb, ℤ, pos, neg_ℤ, length, get_or, drop, Option, Some, None, is_none}
 use Rattle.std.proofs.Common.{sym, arith, ne_eqb}
-use Rattle.std.proofs.Math.Option.{Option, none, some}
 use Rattle.ints.specs.Machine.{eq_z}
 use Rattle.ints.specs.Range.{in_range}
 use Rattle.postings.specs.declared.Book.{Book}
 use Rattle.postings.specs.declared.Book.TheVariants.{Electric, Steam}
 use Rattle.postings.specs.declared.Posting.{Posting}
+use Rattle.postings.specs.declared.kinds.Kind.{Kind}
+pub use Rattle.postings.specs.declared.kinds.Kind.TheVariants.{Cost, Sales, Bill, Settle, MonthEnd, Adjust, Reconcile, Unknown}
 
 -- what a field may hold: a number from low to high, or one of two
 pub data Field : Type 0 where
@@ -25,25 +26,22 @@ abbrev level : Field
 level = between (pos 0) (pos 1)
 
 -- the kinds of the paper's table, in the order of their numbers, which begin at 1; any other number is unknown
-pub data Kind : Type 0 where
-  cost sales bill settle month_end adjust reconcile unknown : Kind
-
 abbrev pub kinds : List Kind
-kinds = unknown ∷ cost ∷ sales ∷ bill ∷ settle ∷ month_end ∷ adjust ∷ reconcile ∷ []
+kinds = Unknown ∷ Cost ∷ Sales ∷ Bill ∷ Settle ∷ MonthEnd ∷ Adjust ∷ Reconcile ∷ []
 
 unfoldable pub kind_of : ℕ → Kind
-kind_of n = get_or kinds n unknown
+kind_of n = get_or kinds n Unknown
 
 -- the number of a kind of the table; 0 is none's
 abbrev pub number_of : Kind → ℕ
-number_of unknown = 0
-number_of cost = 1
-number_of sales = 2
-number_of bill = 3
-number_of settle = 4
-number_of month_end = 5
-number_of adjust = 6
-number_of reconcile = 7
+number_of Unknown = 0
+number_of Cost = 1
+number_of Sales = 2
+number_of Bill = 3
+number_of Settle = 4
+number_of MonthEnd = 5
+number_of Adjust = 6
+number_of Reconcile = 7
 
 -- whether a kind is this one
 abbrev pub is_kind : Kind → Kind → Bool
@@ -52,44 +50,40 @@ is_kind kind other = eqb (number_of kind) (number_of other)
 -- the paper's table: the fields of each kind, that of bit 0 first; none where the book has no such kind
 abbrev pub table_of : Book → Kind → Option (List Field)
 -- F, P, E
-table_of Electric cost = some (plus_minus (10 ^ 10) ∷ plus_minus (10 ^ 10) ∷ plus_minus (10 ^ 10) ∷ [])
+table_of Electric Cost = Some (plus_minus (10 ^ 10) ∷ plus_minus (10 ^ 10) ∷ plus_minus (10 ^ 10) ∷ [])
 -- secondary, primary
-table_of Electric sales = some (up_to (10 ^ 10) ∷ up_to (10 ^ 10) ∷ [])
+table_of Electric Sales = Some (up_to (10 ^ 10) ∷ up_to (10 ^ 10) ∷ [])
 -- level, u
-table_of Electric bill = some (level ∷ plus_minus (10 ^ 9) ∷ [])
+table_of Electric Bill = Some (level ∷ plus_minus (10 ^ 9) ∷ [])
 -- Rs, Rp
-table_of Electric settle = some (between (pos 1) (pos (10 ^ 10)) ∷ between (pos 1) (pos (10 ^ 10)) ∷ [])
+table_of Electric Settle = Some (between (pos 1) (pos (10 ^ 10)) ∷ between (pos 1) (pos (10 ^ 10)) ∷ [])
 -- r
-table_of Electric month_end = some (up_to 200000 ∷ [])
+table_of Electric MonthEnd = Some (up_to 200000 ∷ [])
 -- level, amount
-table_of Electric adjust = some (level ∷ plus_minus (10 ^ 10) ∷ [])
-table_of Electric reconcile = none
-table_of Electric unknown = none
-table_of Steam cost = some (plus_minus (10 ^ 10) ∷ [])
-table_of Steam sales = some (up_to (10 ^ 8) ∷ [])
+table_of Electric Adjust = Some (level ∷ plus_minus (10 ^ 10) ∷ [])
+table_of Electric Reconcile = None
+table_of Electric Unknown = None
+table_of Steam Cost = Some (plus_minus (10 ^ 10) ∷ [])
+table_of Steam Sales = Some (up_to (10 ^ 8) ∷ [])
 -- u
-table_of Steam bill = some (plus_minus (10 ^ 7) ∷ [])
+table_of Steam Bill = Some (plus_minus (10 ^ 7) ∷ [])
 -- b
-table_of Steam settle = some (plus_minus (10 ^ 8) ∷ [])
-table_of Steam month_end = some []
+table_of Steam Settle = Some (plus_minus (10 ^ 8) ∷ [])
+table_of Steam MonthEnd = Some []
 -- n, g
-table_of Steam adjust = some (plus_minus (10 ^ 10) ∷ up_to (10 ^ 11) ∷ [])
+table_of Steam Adjust = Some (plus_minus (10 ^ 10) ∷ up_to (10 ^ 11) ∷ [])
 -- months, D
-table_of Steam reconcile = some (either (pos 12) (pos 24) ∷ between (pos 1) (pos (10 ^ 8)) ∷ [])
-table_of Steam unknown = none
+table_of Steam Reconcile = Some (either (pos 12) (pos 24) ∷ between (pos 1) (pos (10 ^ 8)) ∷ [])
+table_of Steam Unknown = None
 
 -- 2: kind not in the table for that book
-abbrev pub is_none : Option (List Field) → Bool
-is_none none = true
-is_none (some fields) = false
-
 unfoldable pub unknown_kind : Book → ℕ → Bool
 unknown_kind book n = is_none (table_of book (kind_of n))
 
 -- the fields of a kind, by its number
 abbrev pub or_none : Option (List Field) → List Field
-or_none none = []
-or_none (some fields) = fields
+or_none None = []
+or_none (Some fields) = fields
 
 unfoldable pub fields_of : Book → ℕ → List Field
 fields_of book n = or_none (table_of book (kind_of n))
@@ -130,7 +124,7 @@ out_of_range book p = not (in_fields (fields_of book p.kind) (numbers_of p))
 
 -- what holds of each kind of the table with its number, and of any number as an unknown kind, holds of every number with its kind
 pub by_kind :
-    (P : ℕ → Kind → Type 0) → P 1 cost → P 2 sales → P 3 bill → P 4 settle → P 5 month_end → P 6 adjust → P 7 reconcile → ((n : ℕ) → P n unknown) →
+    (P : ℕ → Kind → Type 0) → P 1 Cost → P 2 Sales → P 3 Bill → P 4 Settle → P 5 MonthEnd → P 6 Adjust → P 7 Reconcile → ((n : ℕ) → P n Unknown) →
     (n : ℕ) → P n (kind_of n)
 unfolding kind_of
 by_kind P p1 p2 p3 p4 p5 p6 p7 other zero = other 0
@@ -148,5 +142,5 @@ pub other_kind : (kind : Kind) → 0 < number_of kind → (n : ℕ) → (n ≡ n
 other_kind kind h =
     let other : (k : Kind) → (number_of k ≡ number_of kind → ⊥) → is_kind kind k ≡ false = λ k d. ne_eqb (number_of kind) (number_of k) (λ e. d (sym e)) in
     by_kind (λ n k. (n ≡ number_of kind → ⊥) → is_kind kind k ≡ false)
-    (other cost) (other sales) (other bill) (other settle) (other month_end) (other adjust) (other reconcile)
-    (λ n d. other unknown (λ e. omega arith))
+    (other Cost) (other Sales) (other Bill) (other Settle) (other MonthEnd) (other Adjust) (other Reconcile)
+    (λ n d. other Unknown (λ e. omega arith))

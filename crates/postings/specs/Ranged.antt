@@ -5,8 +5,9 @@ use Rattle.std.proofs.lemmas.Bool.{not-false}
 use Rattle.ints.specs.Flags.{both}
 use Rattle.ints.specs.Machine.{eq_z, eq_z_true}
 use Rattle.ints.specs.Range.{Between, in_range_true}
-use Rattle.postings.specs.Kinds.{Field, between, either, allows, Kind, kind_of, table_of, or_none, fields_of, numbers_of, in_fields, out_of_range}
+use Rattle.postings.specs.Kinds.{Field, between, either, allows, kind_of, table_of, or_none, fields_of, numbers_of, in_fields, out_of_range}
 use Rattle.postings.specs.declared.Book.{Book}
+use Rattle.postings.specs.declared.kinds.Kind.{Kind}
 use Rattle.postings.specs.declared.Posting.{Posting}
 
 abbrev RangedBy : Field → ℤ → Type 0

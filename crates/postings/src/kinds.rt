@@ -1,40 +1,80 @@
-// The table of kinds and fields, and the bit map of a posting.
+// The kinds of postings, how many fields each has, and the bit map of a posting.
 ghost use Rattle.std.specs.Prelude.{◌≡◌, ◌<◌};
-ghost use Rattle.postings.specs.Kinds.{numbers_of, standing};
-ghost use Rattle.postings.specs.BitMaps.{bit_map_of, bit_of, maps_of, packed_of};
+ghost use Rattle.postings.specs.Kinds.{numbers_of, standing, kind_of};
+ghost use Rattle.postings.specs.BitMaps.{bit_map_of, bit_of, maps_of};
 
 use crate::{Book, Posting};
 
-// What `maps_of` gives for the electric book: a byte a kind, that of kind 0 rightmost, since an array would be built anew at every call.
-const ELECTRIC_MAPS: u64 = 0x00_04_02_04_04_04_08_00;
+// The kinds of postings, by their numbers in a record. Which of them a book has, its table says.
+#[derive(Clone, Copy, Debug, PartialEq, Eq)]
+pub enum Kind {
+    // Any number that stands below for none: a kind of no book, as a reconciliation is none of the electric book's.
+    Unknown,
+    Cost,
+    Sales,
+    Bill,
+    Settle,
+    MonthEnd,
+    Adjust,
+    Reconcile,
+}
 
-// The same for the steam book.
-const STEAM_MAPS: u64 = 0x04_04_01_02_02_02_02_00;
+impl From<u8> for Kind {
+    ghost from_gives = { λ number kind. kind ≡ kind_of number };
 
-fn packed_of(book: Book) -> u64
-    ensures { result ≡ packed_of book }
-{
-    match book {
-        Book::Electric => ELECTRIC_MAPS,
-        Book::Steam => STEAM_MAPS,
+    fn from(number: u8) -> Kind {
+        match number {
+            1 => Kind::Cost,
+            2 => Kind::Sales,
+            3 => Kind::Bill,
+            4 => Kind::Settle,
+            5 => Kind::MonthEnd,
+            6 => Kind::Adjust,
+            7 => Kind::Reconcile,
+            _ => Kind::Unknown,
+        }
     }
 }
 
-// How many bit maps the records of a kind may have: 2 to the number of its fields, 0 where the book has no such kind.
-pub fn maps_of(book: Book, kind: u8) -> u8
+// What `maps_of` gives of the electric book, by kind: a table, since a `match` is a jump that the processor cannot foresee.
+static ELECTRIC_MAPS: [Option<u8>; 8] = [
+    None, // unknown
+    Some(8), // cost
+    Some(4), // sales
+    Some(4), // bill
+    Some(4), // settle
+    Some(2), // month end
+    Some(4), // adjust
+    None, // reconcile
+];
+
+// The same of the steam book.
+static STEAM_MAPS: [Option<u8>; 8] = [
+    None, // unknown
+    Some(2), // cost
+    Some(2), // sales
+    Some(2), // bill
+    Some(2), // settle
+    Some(1), // month end
+    Some(4), // adjust
+    Some(4), // reconcile
+];
+
+// How many bit maps the records of a kind may have, 2 to the number of its fields; none where the book has no such kind.
+pub fn maps_of(book: Book, kind: Kind) -> Option<u8>
     ensures { result ≡ maps_of book kind }
 {
-    if 8 <= kind {
-        return 0;
+    match book {
+        Book::Electric => ELECTRIC_MAPS[kind as usize],
+        Book::Steam => STEAM_MAPS[kind as usize],
     }
-    ((packed_of(book) >> (8 * kind)) % 256) as u8
 }
 
 // 1 for a number that has a field, 0 for 0, which has none.
 fn bit_of(number: i64) -> u8
     ensures { (result ≡ bit_of number) × (result < 2) }
 {
-    if number == 0 { 0 } else { 1 }
+    u8::from(number != 0)
 }
 
 // The bit map of the numbers that are not 0.

@@ -3,35 +3,37 @@
 
 use std::io;
 
-fn print_quotient(rt: &impl Print, a: i64, b: i64) -> io::Result<()> {
-    println!(rt; "round({a}/{b}) = {}", rounding::round_div(a, b))
-}
-
-fn print_weight(rt: &impl Print, secondary: i64, primary: i64) -> io::Result<()> {
-    println!(rt;
-        "weight({secondary}, {primary}) = {}",
-        rounding::weight(secondary, primary)
-    )
-}
-
 fn print_quotients(rt: &impl Print) -> io::Result<()> {
-    print_quotient(rt, -90, 100)?;
-    print_quotient(rt, -45, 100)?;
-    print_quotient(rt, 50, 100)?;
-    print_quotient(rt, -50, 100)?;
-    print_quotient(rt, 149, 100)?;
-    print_quotient(rt, -151, 100)?;
-    print_quotient(rt, 9_223_372_036_854_775_807, 2)?;
-    print_quotient(rt, -9_223_372_036_854_775_808, 1)?;
-    print_quotient(rt, 7, 0)
+    for (a, b) in [
+        (-90, 100),
+        (-45, 100),
+        (50, 100),
+        (-50, 100),
+        (149, 100),
+        (-151, 100),
+        (i64::MAX, 2),
+        (i64::MIN, 1),
+        (7, 0),
+    ] {
+        println!(rt; "round({a}/{b}) = {}", rounding::round_div(a, b))?;
+    }
+    Ok(())
 }
 
 fn print_weights(rt: &impl Print) -> io::Result<()> {
-    print_weight(rt, 65_065_800_000, 42_492_400_000)?;
-    print_weight(rt, 2_000_000_000_000_000, 1)?;
-    print_weight(rt, 1, 2_000_000_000_000_000)?;
-    print_weight(rt, 0, 0)?;
-    print_weight(rt, 2_000_000_000_000_001, 1)
+    for (secondary, primary) in [
+        (65_065_800_000, 42_492_400_000),
+        (2_000_000_000_000_000, 1),
+        (1, 2_000_000_000_000_000),
+        (0, 0),
+        (2_000_000_000_000_001, 1),
+    ] {
+        println!(rt;
+            "weight({secondary}, {primary}) = {}",
+            rounding::weight(secondary, primary)
+        )?;
+    }
+    Ok(())
 }
 
 fn print_all(rt: &impl Print) -> io::Result<()> {

@@ -1,94 +1,74 @@
--- Laws of a field's 8 bytes: they are gathered and stored in halves, and a number and its 64 bits determine each other. Assumes nothing.
-use mathlib.Core.Path.{◌≡◌, refl, sym, ap, ◌∙◌}
-use mathlib.Core.Bool.{Bool, true, false, cond}
-use mathlib.Core.List.{List, [], ◌++◌}
-use Prim.Native.Nat.{ℕ, suc, ◌+◌, ◌-◌, ◌*◌, ◌/◌, ◌^◌, ◌<◌, ◌≤◌}
-use native.Mathlib.Omega.{arith}
-use lib.Dec.{ltb}
-use lib.IntN.{ℤ, pos, negsuc, nat_abs, neg_ℤ, ◌+ℤ◌}
-use lib.Signed.{lt_z, ◌≤ℤ◌, ◌<ℤ◌}
-use lib.ListN.{length, get_or, take, drop, length-drop}
-use lib.Seq.{sets, drop-cons, drop-drop, take-add, length-take-le}
-use mir.Syntax.{w64}
-use mir.Val.{to_z}
-use mir.Facts.{to_z_pos, to_z-neg}
-use borrow.Author.Tests.{lt-ltb, le-ltb, ltb-true, ltb-false}
-use Rattle.ints.specs.Digits.{digits, value}
-use Rattle.ints.proofs.DigitLaws.{digits_split, length_digits, value_append}
-use Rattle.ints.specs.Machine.{eq_z, eq_z_false}
+-- Laws of a field's 8 bytes: std's words for bytes and for two's complement are the definitions'. Assumes nothing.
+use Rattle.std.specs.Prelude.{◌≡◌, refl, Bool, true, false, cond, List, [], ◌∷◌, ℕ, zero, suc, ◌+◌, ◌-◌, ◌/◌, ◌%◌, ◌^◌, ◌<◌, ◌≤◌, ltb, ℤ, pos, negsuc, ◌-ℤ◌, length, take}
+use Rattle.std.proofs.Common.{sym, ap, ◌∙◌, arith, SFits, to_z, of_z, to_z-of_z, get_or, length-take-le, subst}
+use Rattle.std.proofs.lemmas.Nat.{from_be_bytes-to_be_bytes_8}
+use Rattle.std.specs.Int.{w64, bytes_high_first, to_be_bytes, from_be_bytes}
+use Rattle.std.specs.Int.Signed.{lt_z}
+use borrow.Author.Tests.{lt-ltb}
+use Rattle.ints.specs.Digits.{Digits, digits, value}
+use Rattle.ints.proofs.DigitLaws.{digits_split, value_below, digits_value}
 use Rattle.ints.specs.Order.{signed}
-use Rattle.refusals.specs.Stores.{sets_append}
-use Rattle.records.specs.Fields.{twos_complement, bits_of, bytes_of}
+use Rattle.records.specs.Fields.{field_of, twos_complement, bits_of}
 
--- ---- gathered
+-- ---- bytes
 
-pub value_one : (s : List ℕ) (at : ℕ) → at + 1 ≤ length s → value 256 (take 1 (drop at s)) ≡ get_or s at 0
-unfolding value
-value_one s at h =
-    let l : at < length s = omega arith in
-    ap (λ (l : List ℕ). value 256 (take 1 l)) (drop-cons s at 0 l) ∙ omega arith
+bytes_first : (count n : ℕ) → bytes_high_first count n ≡ digits 256 count n
+unfolding digits
+bytes_first zero n = refl
+bytes_first (suc zero) n = refl
+bytes_first (suc (suc count)) n =
+    let e : 1 + suc count ≡ suc (suc count) = omega arith in
+    ap (λ (l : List ℕ). n / 256 ^ suc count % 256 ∷ l) (bytes_first (suc count) n) ∙ sym (digits_split 256 1 (suc count) n) ∙ ap (λ (k : ℕ). digits 256 k n) e
 
--- two parts, one behind the other
-pub value_parts : (s : List ℕ) (at high low : ℕ) → at + high + low ≤ length s → value 256 (take (high + low) (drop at s)) ≡ value 256 (take high (drop at s)) * 256 ^ low + value 256 (take low (drop (at + high) s))
-value_parts s at high low h =
-    let rest = drop (at + high) s in
-    let l : length (take low rest) ≡ low = length-take-le low rest (omega (arith, length-drop (at + high) s)) in
-    ap (value 256) (take-add high low (drop at s) ∙ ap (λ (r : List ℕ). take high (drop at s) ++ take low r) (drop-drop high at s))
-    ∙ value_append 256 (take high (drop at s)) (take low rest)
-    ∙ ap (λ (k : ℕ). value 256 (take high (drop at s)) * 256 ^ k + value 256 (take low rest)) l
+bytes_are_digits : (n : ℕ) → to_be_bytes w64 n ≡ digits 256 8 n
+bytes_are_digits n = bytes_first 8 n
 
--- ---- stored
+-- a slice's bytes are below 256, as its type says
+each_byte : (bytes : List ℕ) → ((i : ℕ) → get_or bytes i 0 < 256) → Digits 256 bytes
+each_byte [] h = tt
+each_byte (b ∷ bytes) h = (h 0, each_byte bytes (λ i. h (suc i)))
 
-pub stored_parts : (l : List ℕ) (at high low n : ℕ) → sets (sets l at (digits 256 high (n / 256 ^ low))) (at + high) (digits 256 low n) ≡ sets l at (digits 256 (high + low) n)
-stored_parts l at high low n =
-    let front = digits 256 high (n / 256 ^ low) in
-    ap (λ (k : ℕ). sets (sets l at front) (at + k) (digits 256 low n)) (sym (length_digits 256 high (n / 256 ^ low)))
-    ∙ sym (sets_append l at front (digits 256 low n))
-    ∙ ap (sets l at) (sym (digits_split 256 high low n))
+pub eight_small : (bytes : List ℕ) → length bytes ≡ 8 → Digits 256 bytes → value 256 bytes < 2 ^ 64
+eight_small bytes l d = subst (λ (n : ℕ). value 256 bytes < 256 ^ n) l (value_below 256 bytes d)
+
+bytes_are_value : (bytes : List ℕ) → length bytes ≡ 8 → Digits 256 bytes → from_be_bytes w64 bytes ≡ value 256 bytes
+bytes_are_value bytes l d =
+    let n = value 256 bytes in
+    let back : to_be_bytes w64 n ≡ bytes = bytes_are_digits n ∙ ap (λ (k : ℕ). digits 256 k n) (sym l) ∙ digits_value 256 bytes d in
+    ap (from_be_bytes w64) (sym back) ∙ from_be_bytes-to_be_bytes_8 n (eight_small bytes l d)
+
+-- every byte of a part is a byte
+pub digits_take : (n : ℕ) (bytes : List ℕ) → Digits 256 bytes → Digits 256 (take n bytes)
+digits_take zero bytes d = tt
+digits_take (suc n) [] d = tt
+digits_take (suc n) (b ∷ bytes) d = (d.0, digits_take n bytes d.1)
 
 -- ---- the number of 64 bits
 
-pub twos_low : (n : ℕ) → n < 2 ^ 63 → twos_complement n ≡ pos n
+pub bits_are_number : (n : ℕ) → n < 2 ^ 64 → to_z w64 n ≡ twos_complement n
 unfolding twos_complement
-twos_low n h = ap (λ (t : Bool). cond t (pos n) (pos n +ℤ neg_ℤ (pos (2 ^ 64)))) (lt-ltb n (2 ^ 63) h)
-
-pub twos_high : (n : ℕ) → 2 ^ 63 ≤ n → n < 2 ^ 64 → twos_complement n ≡ negsuc (2 ^ 64 - suc n)
-unfolding twos_complement
-twos_high n h k = ap (λ (t : Bool). cond t (pos n) (pos n +ℤ neg_ℤ (pos (2 ^ 64)))) (le-ltb n (2 ^ 63) h)
-    ∙ ap (λ (t : Bool). cond t (negsuc (2 ^ 64 - suc n)) (pos (n - 2 ^ 64))) (lt-ltb n (2 ^ 64) k)
-
--- what the machine makes of the bits
-pub twos_is : (n : ℕ) → n < 2 ^ 64 → to_z w64 n ≡ twos_complement n
-twos_is n h = go (ltb n (2 ^ 63)) refl
+bits_are_number n h = go (ltb n (2 ^ 63)) (lt-ltb n (2 ^ 64) h)
   where
-    go : (t : Bool) → ltb n (2 ^ 63) ≡ t → to_z w64 n ≡ twos_complement n
-    go true e = to_z_pos w64 (ltb-true n (2 ^ 63) e) ∙ sym (twos_low n (ltb-true n (2 ^ 63) e))
-    go false e =
-        let l : 2 ^ 63 ≤ n = ltb-false n (2 ^ 63) e in
-        let back : n ≡ 2 ^ 64 - suc (2 ^ 64 - suc n) = omega arith in
-        let small : 2 ^ 64 - suc n < 2 ^ 63 = omega arith in
-        ap (to_z w64) back ∙ to_z-neg w64 (2 ^ 64 - suc n) small ∙ sym (twos_high n l h)
+    go : (t : Bool) → ltb n (2 ^ 64) ≡ true → cond t (pos n) (negsuc (2 ^ 64 - suc n)) ≡ cond t (pos n) (pos n -ℤ pos (2 ^ 64))
+    go true e = refl
+    go false e = sym (ap (λ (t : Bool). cond t (negsuc (2 ^ 64 - suc n)) (pos (n - 2 ^ 64))) e)
+
+pub field_from_bytes : (bytes field : List ℕ) → 8 ≤ length bytes → ((i : ℕ) → get_or bytes i 0 < 256) → field ≡ take 8 bytes → to_z w64 (from_be_bytes w64 field) ≡ field_of bytes
+unfolding field_of
+field_from_bytes bytes field l h e =
+    let eight : length (take 8 bytes) ≡ 8 = length-take-le 8 bytes l in
+    let each = digits_take 8 bytes (each_byte bytes h) in
+    ap (to_z w64) (ap (from_be_bytes w64) e ∙ bytes_are_value (take 8 bytes) eight each)
+    ∙ bits_are_number (value 256 (take 8 bytes)) (eight_small (take 8 bytes) eight each)
 
 -- ---- the 64 bits of a number
 
-pub bits_below : (z : ℤ) → z <ℤ pos 0 → bits_of z ≡ 2 ^ 64 - nat_abs z
+pub number_is_bits : (z : ℤ) → of_z w64 z ≡ bits_of z
 unfolding bits_of
-bits_below z h =
-    let t : lt_z z (pos 0) ≡ true = omega signed in
+number_is_bits (pos n) =
+    let t : lt_z (pos n) (pos 0) ≡ false = omega signed in
     simp t
+number_is_bits (negsuc n) = refl
 
-pub bits_not_below : (z : ℤ) → pos 0 ≤ℤ z → bits_of z ≡ nat_abs z
-unfolding bits_of
-bits_not_below z h =
-    let t : lt_z z (pos 0) ≡ false = omega signed in
-    simp t
-
--- ---- a number's field
-
-pub no_field : (z : ℤ) → z ≡ pos 0 → bytes_of z ≡ []
-unfolding bytes_of
-no_field z e = ap (λ (y : ℤ). cond (eq_z y (pos 0)) [] (digits 256 8 (bits_of y))) e
-
-pub a_field : (z : ℤ) → (z ≡ pos 0 → ⊥) → bytes_of z ≡ digits 256 8 (bits_of z)
-unfolding bytes_of
-a_field z f = ap (λ (t : Bool). cond t [] (digits 256 8 (bits_of z))) (eq_z_false z (pos 0) f)
+pub field_to_bytes : (z : ℤ) → SFits w64 z → to_be_bytes w64 (of_z w64 (to_z w64 (of_z w64 z))) ≡ digits 256 8 (bits_of z)
+field_to_bytes z f = ap (λ (y : ℤ). to_be_bytes w64 (of_z w64 y)) (to_z-of_z f) ∙ bytes_are_digits (of_z w64 z) ∙ ap (digits 256 8) (number_is_bits z)

@@ -1,70 +1,30 @@
 -- A field's number and its bytes determine each other, and so do the numbers and the bytes of all fields of a record. Assumes nothing.
-use mathlib.Core.Path.{◌≡◌, refl, sym, ap, ◌∙◌, subst}
-use mathlib.Core.Bool.{Bool, true, false, cond, not, ◌||◌, true≢false}
-use mathlib.Core.List.{List, [], ◌∷◌, ◌++◌, append_assoc}
-use Prim.Native.Nat.{ℕ, zero, suc, ◌+◌, ◌-◌, ◌*◌, ◌^◌, ◌<◌, ◌≤◌}
-use native.Mathlib.Omega.{arith}
-use lib.Dec.{ltb}
-use lib.IntN.{ℤ, pos, negsuc}
-use lib.ListN.{length, take, drop, length-drop, take-append-drop}
-use lib.Seq.{take_at, drop_at, drop-drop, length-take-le}
-use mir.Syntax.{w64}
-use mir.Val.{SFits}
-use borrow.Author.Tests.{ltb-true, ltb-false}
+use Rattle.std.specs.Prelude.{◌≡◌, refl, Bool, true, false, cond, not, ◌||◌, List, [], ◌∷◌, ◌++◌, ℕ, zero, suc, ◌+◌, ◌*◌, ◌^◌, ◌<◌, ◌≤◌, ℤ, pos, length, take, drop}
+use Rattle.std.proofs.Common.{sym, ap, ◌∙◌, subst, arith, append_assoc, length-drop, length-take-le, SFits, to_z, to_z-of_z}
+use Rattle.std.specs.Int.{w64}
+use Rattle.std.proofs.Math.Facts.{Fits-of_z, Fits-of_lt, of_z-to_z}
+use Rattle.std.proofs.lemmas.Bool.{false≢true}
+use Rattle.std.proofs.lemmas.List.{take_at, drop_at, drop-drop, take-append-drop}
 use Rattle.ints.specs.Digits.{Digits, digits, value}
-use Rattle.ints.proofs.DigitLaws.{length_digits, value_digits, value_below, digits_value}
+use Rattle.ints.proofs.DigitLaws.{length_digits, value_digits, digits_value}
 use Rattle.ints.specs.Machine.{eq_z, eq_z_true}
-use Rattle.ints.specs.Order.{signed}
 use Rattle.postings.proofs.BitMaps.{count}
 use Rattle.postings.specs.Kinds.{standing}
-use Rattle.records.proofs.FieldBytes.{twos_low, twos_high, bits_below, bits_not_below}
+use Rattle.records.proofs.FieldBytes.{digits_take, eight_small, bits_are_number, number_is_bits}
 use Rattle.records.specs.Fields.{twos_complement, field_of, bits_of, bytes_of}
 use Rattle.records.specs.Records.{fields_at, zero_present, field_bytes}
-
--- ---- a number and its 64 bits
-
-bits_pos : (n : ℕ) → bits_of (pos n) ≡ n
-bits_pos n = bits_not_below (pos n) (omega signed)
-
-bits_negsuc : (n : ℕ) → bits_of (negsuc n) ≡ 2 ^ 64 - suc n
-bits_negsuc n = bits_below (negsuc n) (omega signed)
-
-twos_bits : (z : ℤ) → SFits w64 z → twos_complement (bits_of z) ≡ z
-twos_bits (pos n) f = ap twos_complement (bits_pos n) ∙ twos_low n f.sfits
-twos_bits (negsuc n) f =
-    let g = f.sfits in
-    let high : 2 ^ 63 ≤ 2 ^ 64 - suc n = omega arith in
-    let small : 2 ^ 64 - suc n < 2 ^ 64 = omega arith in
-    let back : 2 ^ 64 - suc (2 ^ 64 - suc n) ≡ n = omega arith in
-    ap twos_complement (bits_negsuc n) ∙ twos_high (2 ^ 64 - suc n) high small ∙ ap negsuc back
-
-bits_small : (z : ℤ) → SFits w64 z → bits_of z < 2 ^ 64
-bits_small (pos n) f = omega (arith, f.sfits, bits_pos n)
-bits_small (negsuc n) f = omega (arith, bits_negsuc n)
-
-bits_twos : (n : ℕ) → n < 2 ^ 64 → bits_of (twos_complement n) ≡ n
-bits_twos n h = go (ltb n (2 ^ 63)) refl
-  where
-    go : (t : Bool) → ltb n (2 ^ 63) ≡ t → bits_of (twos_complement n) ≡ n
-    go true e = ap bits_of (twos_low n (ltb-true n (2 ^ 63) e)) ∙ bits_pos n
-    go false e =
-        let back : 2 ^ 64 - suc (2 ^ 64 - suc n) ≡ n = omega arith in
-        ap bits_of (twos_high n (ltb-false n (2 ^ 63) e) h) ∙ bits_negsuc (2 ^ 64 - suc n) ∙ back
 
 -- ---- a field and its bytes
 
 field_read : (z : ℤ) (after : List ℕ) → SFits w64 z → field_of (digits 256 8 (bits_of z) ++ after) ≡ z
 unfolding field_of
 field_read z after f =
+    let small : bits_of z < 2 ^ 64 = subst (λ (n : ℕ). n < 2 ^ 64) (number_is_bits z) (Fits-of_z f).fits in
     ap (λ (l : List ℕ). twos_complement (value 256 l)) (take_at (digits 256 8 (bits_of z)) after 8 (length_digits 256 8 (bits_of z)))
-    ∙ ap twos_complement (value_digits 256 8 (bits_of z) (omega arith) (bits_small z f))
-    ∙ twos_bits z f
-
--- every byte of a part is a byte
-digits_take : (n : ℕ) (bytes : List ℕ) → Digits 256 bytes → Digits 256 (take n bytes)
-digits_take zero bytes d = tt
-digits_take (suc n) [] d = tt
-digits_take (suc n) (b ∷ bytes) d = (d.0, digits_take n bytes d.1)
+    ∙ ap twos_complement (value_digits 256 8 (bits_of z) (omega arith) small)
+    ∙ sym (bits_are_number (bits_of z) small)
+    ∙ ap (to_z w64) (sym (number_is_bits z))
+    ∙ to_z-of_z f
 
 pub digits_drop : (n : ℕ) (bytes : List ℕ) → Digits 256 bytes → Digits 256 (drop n bytes)
 digits_drop zero bytes d = d
@@ -77,8 +37,9 @@ field_written bytes d h =
     let eight = take 8 bytes in
     let long : length eight ≡ 8 = length-take-le 8 bytes h in
     let each = digits_take 8 bytes d in
-    let small : value 256 eight < 2 ^ 64 = subst (λ (n : ℕ). value 256 eight < 256 ^ n) long (value_below 256 eight each) in
-    ap (digits 256 8) (bits_twos (value 256 eight) small)
+    let small = eight_small eight long each in
+    let back : bits_of (twos_complement (value 256 eight)) ≡ value 256 eight = ap bits_of (sym (bits_are_number (value 256 eight) small)) ∙ sym (number_is_bits (to_z w64 (value 256 eight))) ∙ of_z-to_z {w = w64} (Fits-of_lt small) in
+    ap (digits 256 8) back
     ∙ ap (λ (n : ℕ). digits 256 n (value 256 eight)) (sym long)
     ∙ digits_value 256 eight each
 
@@ -89,7 +50,7 @@ AllFit [] = Unit
 AllFit (z ∷ numbers) = SFits w64 z × AllFit numbers
 
 pub fields_read_lem : (numbers : List ℤ) (after : List ℕ) → AllFit numbers → fields_at (standing numbers) (field_bytes numbers ++ after) ≡ numbers
-unfolding fields_at field_bytes bytes_of
+unfolding fields_at bytes_of
 fields_read_lem [] after f = refl
 fields_read_lem (z ∷ numbers) after f = go (eq_z z (pos 0)) refl (fields_read_lem numbers after f.1)
   where
@@ -112,7 +73,7 @@ none_zero (z ∷ numbers) = go (eq_z z (pos 0)) refl (none_zero numbers)
     go false e more = ap (λ (t : Bool). t || zero_present (standing numbers) numbers) e ∙ more
 
 neither : (a b : Bool) → a || b ≡ false → (a ≡ false) × (b ≡ false)
-neither true b e = absurd (true≢false e)
+neither true b e = absurd (false≢true (sym e))
 neither false b e = (refl, e)
 
 -- the fields read where no field present is 0
@@ -125,7 +86,7 @@ standing_read (true ∷ bits) bytes e =
 standing_read (false ∷ bits) bytes e = ap (λ (l : List Bool). false ∷ l) (standing_read bits bytes e)
 
 pub fields_written : (bits : List Bool) (bytes : List ℕ) → Digits 256 bytes → 8 * count bits ≤ length bytes → zero_present bits (fields_at bits bytes) ≡ false → field_bytes (fields_at bits bytes) ++ drop (8 * count bits) bytes ≡ bytes
-unfolding zero_present fields_at field_bytes bytes_of
+unfolding zero_present fields_at bytes_of
 fields_written [] bytes d h e = refl
 fields_written (true ∷ bits) bytes d h e =
     let p = neither (eq_z (field_of bytes) (pos 0)) (zero_present bits (fields_at bits (drop 8 bytes))) e in

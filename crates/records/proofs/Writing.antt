@@ -1,30 +1,33 @@
 -- Laws of writing a record: its length, its bytes stored part by part, and the answer row by row. Assumes nothing.
-use mathlib.Core.Path.{◌≡◌, refl, sym, ap, ◌∙◌}
-use mathlib.Core.Bool.{Bool, true, false, cond, not}
-use mathlib.Core.List.{List, [], ◌∷◌, ◌++◌, append-nil}
-use Prim.Native.Nat.{ℕ, ◌+◌, ◌*◌, ◌<◌, ◌≤◌}
-use native.Mathlib.Omega.{arith}
-use lib.Dec.{lit<}
-use lib.IntN.{ℤ, pos}
-use lib.ListN.{length, set, length-append}
-use lib.Seq.{sets}
-use borrow.Author.Tests.{lt-ltb, le-ltb}
+use Rattle.std.specs.Prelude.{◌≡◌, refl, Bool, true, false, cond, not, List, [], ◌∷◌, ◌++◌, ℕ, zero, suc, ◌+◌, ◌-◌, ◌*◌, ◌<◌, ◌≤◌, ℤ, pos, length, take, drop, set, Some, None, Result, Ok, Err}
+use Rattle.std.proofs.Common.{sym, ap, ◌∙◌, arith, append_assoc, append-nil, length-append, length-drop, get_or, SFits, to_z, of_z, to_z-of_z}
+use Rattle.std.specs.Int.{w64}
+use Rattle.std.proofs.lemmas.Bool.{lt-ltb, le-ltb}
+use Rattle.std.proofs.lemmas.List.{take_more, take_rest, take_at, drop_at, drop-drop}
+use Rattle.std.proofs.Math.Facts.{Fits-of_z, sfits_to_z}
+use Rattle.std.proofs.Math.ListN.{drop_of_length-le}
+use borrow.Rule.Slice.PartMut.{put_mid}
+use Rattle.std.proofs.lemmas.List.Concat.{flat_map-append}
+use Rattle.std.proofs.lemmas.List.Folds.{length-flat_map-take}
 use Rattle.ints.specs.Digits.{digits}
 use Rattle.ints.proofs.DigitLaws.{length_digits}
-use Rattle.ints.specs.Machine.{eq_z}
+use Rattle.ints.specs.Machine.{eq_z, eq_z_false, eq_bits, zero64}
 use Rattle.refusals.specs.Rows.{Row, refusal_by}
+use Rattle.refusals.specs.declared.Refusal.{Refusal}
+use Rattle.refusals.specs.declared.Refusal.TheVariants.{UnknownKind, StrayNumber, BufferTooShort}
 use Rattle.refusals.proofs.TableLaws.{at_row, past_row, accepted}
-use Rattle.refusals.specs.Stores.{sets_append}
-use Rattle.refusals.specs.Writer.{wrote, writer_refused, too_short}
+use Rattle.refusals.specs.Stores.{sets_front}
+use Rattle.refusals.specs.Writer.{too_short}
 use Rattle.refusals.proofs.WriterLaws.{writer_refuses, writer_accepts}
 use Rattle.postings.proofs.BitMaps.{count, ones_of_map}
 use Rattle.postings.proofs.KindTable.{maps_none, maps_some, stands_beyond_lem, none_beyond}
-use Rattle.postings.specs.Kinds.{fields_of, unknown_kind, numbers_of, standing, stands_beyond, stray_number}
+use Rattle.postings.specs.Kinds.{kind_of, fields_of, unknown_kind, numbers_of, standing, stands_beyond, stray_number}
 use Rattle.postings.specs.BitMaps.{bit_map_of, maps_of}
 use Rattle.postings.specs.declared.Book.{Book}
 use Rattle.postings.specs.declared.Posting.{Posting}
 use Rattle.records.specs.Fields.{bits_of, bytes_of}
 use Rattle.records.specs.Records.{record_length, field_bytes, record_of, writing_rows, record_written, record_left}
+use Rattle.records.specs.RoundTrips.{InWords}
 
 -- ---- the length
 
@@ -37,7 +40,6 @@ length_bytes z = go (eq_z z (pos 0))
     go false = length_digits 256 8 (bits_of z)
 
 pub length_fields : (numbers : List ℤ) → length (field_bytes numbers) ≡ 8 * count (standing numbers)
-unfolding field_bytes
 length_fields [] = refl
 length_fields (z ∷ numbers) = omega (arith, length-append (bytes_of z) (field_bytes numbers), length_bytes z, length_fields numbers)
 
@@ -47,26 +49,89 @@ length_record p = omega (arith, length_fields (numbers_of p), ones_of_map (stand
 
 -- ---- its bytes, stored one part behind the other
 
--- where the second and the third field begin, and that they fit
-pub parts_fit : (p : Posting) (n : ℕ) → length (record_of p) ≤ n → 2 + length (bytes_of p.first) + length (bytes_of p.second) + length (bytes_of p.third) ≤ n
-unfolding record_of field_bytes
-parts_fit p n h =
-    omega
-    (arith, length-append (bytes_of p.first) (bytes_of p.second ++ (bytes_of p.third ++ [])), length-append (bytes_of p.second) (bytes_of p.third ++ []), length-append (bytes_of p.third) [])
+-- what stands in the buffer before the field of number i
+pub begun : Posting → ℕ → List ℕ
+begun p i = p.kind ∷ bit_map_of (standing (numbers_of p)) ∷ field_bytes (take i (numbers_of p))
 
-pub record_stored : (p : Posting) (buffer begun first second third : List ℕ) (m at₂ at₃ : ℕ) → m ≡ bit_map_of (standing (numbers_of p)) → begun ≡ set (set buffer 0 p.kind) 1 m → first ≡ sets begun 2 (bytes_of p.first) → at₂ ≡ 2 + length (bytes_of p.first) → second ≡ sets first at₂ (bytes_of p.second) → at₃ ≡ at₂ + length (bytes_of p.second) → third ≡ sets second at₃ (bytes_of p.third) → third ≡ sets buffer 0 (record_of p)
-unfolding record_of field_bytes
-record_stored p buffer begun first second third m at₂ at₃ em e₀ e₁ l₂ e₂ l₃ e₃ =
-    let a = bytes_of p.first in
-    let b = bytes_of p.second in
-    let c = bytes_of p.third in
-    let s = set (set buffer 0 p.kind) 1 (bit_map_of (standing (numbers_of p))) in
-    e₃
-    ∙ (λ i. sets (e₂ i) (l₃ i) (sym (append-nil c) i))
-    ∙ ap (λ (l : List ℕ). sets (sets l at₂ b) (at₂ + length b) (c ++ [])) e₁
-    ∙ sym (sets_append (sets begun 2 a) at₂ b (c ++ []))
-    ∙ (λ i. sets (sets ((e₀ ∙ ap (set (set buffer 0 p.kind) 1) em) i) 2 a) (l₂ i) (b ++ (c ++ [])))
-    ∙ sym (sets_append s 2 a (b ++ (c ++ [])))
+pub head_begun :
+    (p : Posting) (buffer : List ℕ) (bit_map : ℕ) → bit_map ≡ bit_map_of (standing (numbers_of p)) → 2 ≤ length buffer →
+    (2 ≡ length (begun p 0)) × (set (set buffer 0 p.kind) 1 bit_map ≡ begun p 0 ++ drop 2 buffer)
+unfolding begun
+head_begun p [] bit_map e h = absurd (omega arith)
+head_begun p (a ∷ []) bit_map e h = absurd (omega arith)
+head_begun p (a ∷ b ∷ buffer) bit_map e h = (refl, ap (λ (m : ℕ). p.kind ∷ m ∷ buffer) e)
+
+pub all_begun : (p : Posting) (i : ℕ) → i ≤ 3 → 3 ≤ i → begun p i ≡ record_of p
+unfolding begun record_of
+all_begun p i h l =
+    let e : i ≡ 3 = omega arith in
+    ap (begun p) e
+
+-- a field is stored at the front of what stands behind the bytes so far
+pub field_stored :
+    (done field old buffer part : List ℕ) (at n : ℕ) → at ≡ length done → n ≡ length field → buffer ≡ done ++ drop at old →
+    part ≡ field ++ drop n (take (length buffer - at) (drop at buffer)) →
+    put_mid at (length buffer - at) buffer part ≡ (done ++ field) ++ drop (at + n) old
+field_stored done field old buffer part at n l k e p =
+    let front : take at buffer ≡ done = ap (take at) e ∙ take_at done (drop at old) at (sym l) in
+    let rest : drop at buffer ≡ drop at old = ap (drop at) e ∙ drop_at done (drop at old) at (sym l) in
+    let room : length (drop at buffer) ≤ length buffer - at = omega (arith, length-drop at buffer) in
+    let whole : part ≡ field ++ drop (at + n) old = p ∙ ap (λ (r : List ℕ). field ++ r) (ap (drop n) (take_rest buffer at ∙ rest) ∙ drop-drop n at old) in
+    (λ i. front i ++ (whole i ++ drop_of_length-le (drop at buffer) room i))
+    ∙ ap (λ (r : List ℕ). done ++ r) (append-nil (field ++ drop (at + n) old))
+    ∙ sym (append_assoc done field (drop (at + n) old))
+
+-- the numbers as the code reads them of a posting in memory
+abbrev pub numbers_read : Posting → List ℤ
+numbers_read p = to_z w64 (of_z w64 p.first) ∷ to_z w64 (of_z w64 p.second) ∷ to_z w64 (of_z w64 p.third) ∷ []
+
+module _ (p : Posting) (words : InWords p) (i : ℕ) (h : i < 3) where
+  numbers_are : numbers_read p ≡ numbers_of p
+  numbers_are = λ i. to_z-of_z words.0 i ∷ to_z-of_z words.1 i ∷ to_z-of_z words.2 i ∷ []
+
+  abbrev number : ℤ
+  number = get_or (numbers_read p) i (pos 0)
+
+  next_fits : length (begun p i) + length (bytes_of number) ≤ length (record_of p)
+  unfolding begun record_of
+  next_fits = omega (arith, length-flat_map-take bytes_of (numbers_of p) i (pos 0) h, ap (λ (l : List ℤ). length (bytes_of (get_or l i (pos 0)))) numbers_are)
+
+  next_begun : begun p (i + 1) ≡ begun p i ++ bytes_of number
+  unfolding begun
+  next_begun =
+      let one : field_bytes (get_or (numbers_of p) i (pos 0) ∷ []) ≡ bytes_of number = append-nil (bytes_of (get_or (numbers_of p) i (pos 0))) ∙ ap (λ (l : List ℤ). bytes_of (get_or l i (pos 0))) (sym numbers_are) in
+      let fields = flat_map-append bytes_of (take i (numbers_of p)) (get_or (numbers_of p) i (pos 0) ∷ []) ∙ ap (λ (l : List ℕ). field_bytes (take i (numbers_of p)) ++ l) one in
+      ap (λ (l : List ℤ). p.kind ∷ bit_map_of (standing (numbers_of p)) ∷ field_bytes l) (take_more (numbers_of p) i (pos 0) h)
+      ∙ ap (λ (l : List ℕ). p.kind ∷ bit_map_of (standing (numbers_of p)) ∷ l) fields
+
+  fits_at : (j : ℕ) → SFits w64 (get_or (numbers_read p) j (pos 0))
+  fits_at zero = sfits_to_z (Fits-of_z words.0)
+  fits_at (suc zero) = sfits_to_z (Fits-of_z words.1)
+  fits_at (suc (suc zero)) = sfits_to_z (Fits-of_z words.2)
+  fits_at (suc (suc (suc j))) = zero64
+
+  pub none_begun : of_z w64 number ≡ 0 → begun p (i + 1) ≡ begun p i
+  unfolding bytes_of
+  none_begun e = next_begun ∙ ap (λ (z : ℤ). begun p i ++ bytes_of z) (eq_bits (fits_at i) zero64 e) ∙ append-nil (begun p i)
+
+  module _ (stands : of_z w64 number ≡ 0 → ⊥) where
+    abbrev field : List ℕ
+    field = digits 256 8 (bits_of (to_z w64 (of_z w64 number)))
+
+    field_is : bytes_of number ≡ field
+    unfolding bytes_of
+    field_is =
+        ap (λ (t : Bool). cond t [] (digits 256 8 (bits_of number))) (eq_z_false number (pos 0) (λ e. stands (ap (of_z w64) e)))
+        ∙ ap (λ (z : ℤ). digits 256 8 (bits_of z)) (sym (to_z-of_z (fits_at i)))
+
+    pub field_begun : begun p (i + 1) ≡ begun p i ++ field
+    field_begun = next_begun ∙ ap (λ (l : List ℕ). begun p i ++ l) field_is
+
+    pub field_long : length field ≡ 8
+    field_long = length_digits 256 8 (bits_of (to_z w64 (of_z w64 number)))
+
+    pub field_fits : length (begun p i) + 8 ≤ length (record_of p)
+    field_fits = omega (arith, next_fits, ap length field_is, field_long)
 
 -- ---- row by row
 
@@ -77,30 +142,34 @@ module _ (book : Book) (p : Posting) (buffer : List ℕ) where
   abbrev rows : List Row
   rows = writing_rows book p buffer
 
-  by_row : (n : ℕ) → 0 < n → refusal_by rows ≡ n → (writer_refused n ≡ record_written book p buffer) × (buffer ≡ record_left book p buffer)
+  -- an answer, with what it leaves in the buffer
+  abbrev Writes : Result ℕ Refusal → List ℕ → Type 0
+  Writes answer after = (answer ≡ record_written book p buffer) × (after ≡ record_left book p buffer)
+
+  refused_by : (refusal : Refusal) → refusal_by rows ≡ Some refusal → Writes (Err refusal) buffer
   unfolding record_written record_left
-  by_row n h e = writer_refuses rows (record_of p) buffer n h e
+  refused_by refusal e = writer_refuses rows (record_of p) buffer refusal e
 
-  pub refused₂ : maps_of book p.kind ≡ 0 → (writer_refused 2 ≡ record_written book p buffer) × (buffer ≡ record_left book p buffer)
-  refused₂ e = by_row 2 (lit< tt) (at_row 2 _ (maps_none book p.kind e))
+  pub no_kind : maps_of book (kind_of p.kind) ≡ None → Writes (Err UnknownKind) buffer
+  no_kind e = refused_by UnknownKind (at_row UnknownKind _ (maps_none book p.kind e).0)
 
-  module _ (has : 0 < maps_of book p.kind) where
-    known : unknown_kind book p.kind ≡ false
-    known = maps_some book p.kind has
+  module _ (maps : ℕ) (known : maps_of book (kind_of p.kind) ≡ Some maps) where
+    kind_known : unknown_kind book p.kind ≡ false
+    kind_known = (maps_some book p.kind maps known).0
 
-    pub refused₃ : maps_of book p.kind ≤ bit_map_of bits → (writer_refused 3 ≡ record_written book p buffer) × (buffer ≡ record_left book p buffer)
+    pub stray : maps ≤ bit_map_of bits → Writes (Err StrayNumber) buffer
     unfolding stray_number
-    refused₃ h = by_row 3 (lit< tt) (past_row 2 _ known ∙ at_row 3 _ (stands_beyond_lem book p.kind bits known h))
+    stray h = refused_by StrayNumber (past_row UnknownKind _ kind_known ∙ at_row StrayNumber _ (stands_beyond_lem book p.kind bits maps known h))
 
-    module _ (few : bit_map_of bits < maps_of book p.kind) where
+    module _ (few : bit_map_of bits < maps) where
       none : stands_beyond (fields_of book p.kind) bits ≡ false
-      none = none_beyond book p.kind bits known few
+      none = none_beyond book p.kind bits maps known few
 
-      pub refused₁₃ : length buffer < length (record_of p) → (writer_refused 13 ≡ record_written book p buffer) × (buffer ≡ record_left book p buffer)
+      pub no_room : length buffer < length (record_of p) → Writes (Err BufferTooShort) buffer
       unfolding too_short stray_number
-      refused₁₃ h = by_row 13 (lit< tt) (past_row 2 _ known ∙ past_row 3 _ none ∙ at_row 13 [] (lt-ltb (length buffer) (length (record_of p)) h))
+      no_room h = refused_by BufferTooShort (past_row UnknownKind _ kind_known ∙ past_row StrayNumber _ none ∙ at_row BufferTooShort [] (lt-ltb (length buffer) (length (record_of p)) h))
 
-      pub written : (after : List ℕ) (n : ℕ) → length (record_of p) ≤ length buffer → n ≡ length (record_of p) → after ≡ sets buffer 0 (record_of p) → (wrote n ≡ record_written book p buffer) × (after ≡ record_left book p buffer)
+      pub written : (after : List ℕ) (n : ℕ) → length (record_of p) ≤ length buffer → n ≡ length (record_of p) → after ≡ record_of p ++ drop (length (record_of p)) buffer → Writes (Ok n) after
       unfolding too_short record_written record_left stray_number
       written after n h e s =
-          writer_accepts rows (record_of p) buffer after n (accepted rows (known, (none, (le-ltb (length buffer) (length (record_of p)) h, tt)))) h e s
+          writer_accepts rows (record_of p) buffer after n (accepted rows (kind_known, (none, (le-ltb (length buffer) (length (record_of p)) h, tt)))) h e (s ∙ sym (sets_front buffer (record_of p) h))

@@ -1,18 +1,21 @@
 -- Posting records (01, Posting records, Refusals in order of checking): what reading at a place gives, and what writing a posting.
-use Rattle.std.specs.Prelude.{◌≡◌, refl, Bool, true, false, ◌||◌, List, [], ◌∷◌, ◌++◌, ℕ, ◌+◌, ◌*◌, ◌≤◌, ltb, ℤ, pos, length, get_or, drop}
-use Rattle.std.proofs.Common.{sym, ap, ◌∙◌, arith, length-drop, ltb-false}
+use Rattle.std.specs.Prelude.{◌≡◌, refl, Bool, true, false, ◌||◌, List, [], ◌∷◌, ℕ, ◌+◌, ◌*◌, ◌≤◌, ltb, ℤ, pos, length, get_or, drop, Option, Some, None, Result, Ok, Err, IfOk}
+use Rattle.std.proofs.Common.{arith, length-drop, ltb-false}
 use Rattle.std.specs.Int.Count.{ones}
+use Rattle.std.specs.List.{flat_map}
+use Rattle.std.specs.Result.{result_err}
 use Rattle.ints.specs.Machine.{eq_z}
-use Rattle.refusals.specs.Rows.{Row, row, refusal_by, by_table}
-use Rattle.refusals.proofs.TableLaws.{none_holds, gives_asked, gives_number}
+use Rattle.refusals.specs.Rows.{Row, row, refusal_by, given_by, by_table}
+use Rattle.refusals.proofs.TableLaws.{by_table_lem}
 use Rattle.refusals.specs.Writer.{too_short, written_by, buffer_left}
-use Rattle.refusals.specs.declared.Written.{Written}
+use Rattle.refusals.specs.declared.Refusal.{Refusal}
+use Rattle.refusals.specs.declared.Refusal.TheVariants.{NoRecord, UnknownKind, StrayNumber, RecordCutShort, ZeroPresent, BufferTooShort}
 use Rattle.postings.specs.BitMaps.{bits_from, bit_map_of}
 use Rattle.postings.specs.Kinds.{fields_of, unknown_kind, numbers_of, standing, stands_beyond, stray_number}
 use Rattle.postings.specs.declared.Book.{Book}
 use Rattle.postings.specs.declared.Posting.{Posting}
 use Rattle.records.specs.Fields.{field_of, bytes_of}
-use Rattle.records.specs.declared.Read.{Read}
+use Rattle.records.specs.declared.Found.{Found}
 
 -- the record's length is 2 + 8 × the standing bits
 unfoldable pub record_length : ℕ → ℕ
@@ -45,58 +48,59 @@ zero_present (false ∷ bits) (z ∷ numbers) = zero_present bits numbers
 
 abbrev pub reading_rows : Book → List ℕ → List Row
 reading_rows book bytes =
-    row 1 (ltb (length bytes) 2)
-    ∷ row 2 (unknown_kind book (kind_in bytes))
-    ∷ row 3 (stands_beyond (fields_of book (kind_in bytes)) (bits_from 8 (bit_map_in bytes)))
-    ∷ row 4 (ltb (length bytes) (record_length (bit_map_in bytes)))
-    ∷ row 5 (zero_present (bits_from 3 (bit_map_in bytes)) (numbers_in bytes))
+    row NoRecord (ltb (length bytes) 2)
+    ∷ row UnknownKind (unknown_kind book (kind_in bytes))
+    ∷ row StrayNumber (stands_beyond (fields_of book (kind_in bytes)) (bits_from 8 (bit_map_in bytes)))
+    ∷ row RecordCutShort (ltb (length bytes) (record_length (bit_map_in bytes)))
+    ∷ row ZeroPresent (zero_present (bits_from 3 (bit_map_in bytes)) (numbers_in bytes))
     ∷ []
 
 abbrev pub posting_of : ℕ → List ℤ → Posting
 posting_of kind numbers =
     record { kind = kind; first = get_or numbers 0 (pos 0); second = get_or numbers 1 (pos 0); third = get_or numbers 2 (pos 0) }
 
--- 0, the next place and the posting found there
-abbrev pub found_at : ℕ → Posting → Read
-found_at next p = record { number = 0; place = next; posting = p }
+-- the next place and the posting found there
+abbrev pub found_at : ℕ → Posting → Result Found Refusal
+found_at next p = Ok (record { place = next; posting = p })
 
--- the number of the refusal and the place, with a posting of kind 0
-abbrev pub refused_at : ℕ → ℕ → Read
-refused_at place n = record { number = n; place = place; posting = posting_of 0 [] }
-
-unfoldable pub read_of : Book → List ℕ → ℕ → Read
+unfoldable pub read_of : Book → List ℕ → ℕ → Result Found Refusal
 read_of book bytes place =
     let rest = drop place bytes in
-    by_table (reading_rows book rest)
-    (found_at (place + record_length (bit_map_in rest)) (posting_of (kind_in rest) (numbers_in rest)))
-    (refused_at place)
+    by_table (reading_rows book rest) (found_at (place + record_length (bit_map_in rest)) (posting_of (kind_in rest) (numbers_in rest))) Err
 
--- the number returned is the table's
-pub read_number : (book : Book) (bytes : List ℕ) (place : ℕ) → (read_of book bytes place).number ≡ refusal_by (reading_rows book (drop place bytes))
+-- what a table refuses is the refusal of its first row that holds
+pub table_refusal : {A : Type 0} (rows : List Row) (asked : A) → result_err (by_table rows (Ok asked) Err) ≡ refusal_by rows
+unfolding by_table
+table_refusal {A} rows asked = go (refusal_by rows)
+  where
+    go : (o : Option Refusal) → result_err (given_by {A = Result A Refusal} o (Ok asked) Err) ≡ o
+    go None = refl
+    go (Some refusal) = refl
+
+-- the refusal returned is the table's
+pub read_refusal : (book : Book) (bytes : List ℕ) (place : ℕ) → result_err (read_of book bytes place) ≡ refusal_by (reading_rows book (drop place bytes))
 unfolding read_of
-read_number book bytes place = gives_number (reading_rows book (drop place bytes)) _ (refused_at place) (λ (r : Read). r.number) refl (λ n. refl)
+read_refusal book bytes place = table_refusal (reading_rows book (drop place bytes)) _
 
 -- a record that is found has two bytes at least, and all its bytes remain
-pub found_on :
-    (book : Book) (bytes : List ℕ) (place : ℕ) → (read_of book bytes place).number ≡ 0 →
-    (place + 2 ≤ (read_of book bytes place).place) × ((read_of book bytes place).place ≤ length bytes)
+pub found_on : (book : Book) (bytes : List ℕ) (place : ℕ) → IfOk (read_of book bytes place) (λ (f : Found). (place + 2 ≤ f.place) × (f.place ≤ length bytes))
 unfolding read_of record_length
-found_on book bytes place e =
+found_on book bytes place =
     let rest = drop place bytes in
-    let rows = reading_rows book rest in
-    let none = sym (read_number book bytes place) ∙ e in
-    let holds = none_holds rows tt none in
-    let some = ltb-false (length rest) 2 holds.0 in
-    let enough = ltb-false (length rest) (record_length (bit_map_in rest)) holds.1.1.1.0 in
-    let found : (read_of book bytes place).place ≡ place + record_length (bit_map_in rest) = ap (λ (r : Read). r.place) (gives_asked rows _ (refused_at place) none) in
+    by_table_lem (λ (r : Result Found Refusal). IfOk r (λ (f : Found). (place + 2 ≤ f.place) × (f.place ≤ length bytes)))
+    (reading_rows book rest) _ Err
+    (λ none.
+    let some = ltb-false (length rest) 2 none.0 in
+    let enough = ltb-false (length rest) (record_length (bit_map_in rest)) none.1.1.1.0 in
     let left = length-drop place bytes in
-    (omega arith, omega arith)
+    (omega arith, omega arith))
+    (λ refusal. tt)
 
 -- ---- writing
 
-unfoldable pub field_bytes : List ℤ → List ℕ
-field_bytes [] = []
-field_bytes (z ∷ numbers) = bytes_of z ++ field_bytes numbers
+-- the fields of the numbers, one behind the other
+abbrev pub field_bytes : List ℤ → List ℕ
+field_bytes = flat_map bytes_of
 
 -- kind, bit map, fields
 unfoldable pub record_of : Posting → List ℕ
@@ -104,13 +108,13 @@ record_of p = p.kind ∷ bit_map_of (standing (numbers_of p)) ∷ field_bytes (n
 
 abbrev pub writing_rows : Book → Posting → List ℕ → List Row
 writing_rows book p buffer =
-    row 2 (unknown_kind book p.kind)
-    ∷ row 3 (stray_number book p)
-    ∷ row 13 (too_short (record_of p) buffer)
+    row UnknownKind (unknown_kind book p.kind)
+    ∷ row StrayNumber (stray_number book p)
+    ∷ row BufferTooShort (too_short (record_of p) buffer)
     ∷ []
 
 -- what the record writer answers, and what it leaves in the buffer
-unfoldable pub record_written : Book → Posting → List ℕ → Written
+unfoldable pub record_written : Book → Posting → List ℕ → Result ℕ Refusal
 record_written book p buffer = written_by (writing_rows book p buffer) (record_of p)
 
 unfoldable pub record_left : Book → Posting → List ℕ → List ℕ

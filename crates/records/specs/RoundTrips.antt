@@ -1,9 +1,8 @@
 -- Record bytes read and written agree, both ways. Both statements are proved in proofs/RoundTrips.antt.
-use Rattle.std.specs.Prelude.{◌≡◌, List, ◌++◌, ℕ, ◌+◌, ◌-◌, ◌≤◌, length, take, drop}
+use Rattle.std.specs.Prelude.{◌≡◌, List, ◌++◌, ℕ, ◌+◌, ◌-◌, ◌≤◌, length, take, drop, Ok}
 use Rattle.std.specs.Int.{w64}
 use Rattle.std.proofs.Common.{SFits}
 use Rattle.ints.specs.Digits.{Digits}
-use Rattle.refusals.specs.Writer.{wrote}
 use Rattle.postings.specs.declared.Book.{Book}
 use Rattle.postings.specs.declared.Posting.{Posting}
 use Rattle.records.specs.Records.{found_at, read_of, record_written, record_left}
@@ -17,7 +16,7 @@ abbrev pub WrittenIsRead : Type 0
 WrittenIsRead =
     (book : Book) (p : Posting) (before buffer : List ℕ) (n : ℕ) →
     InWords p →
-    record_written book p buffer ≡ wrote n →
+    record_written book p buffer ≡ Ok n →
     read_of book (before ++ record_left book p buffer) (length before) ≡ found_at (length before + n) p
 
 -- what was read is written as the bytes that it was read from, into any buffer that holds them
@@ -27,4 +26,4 @@ ReadIsWritten =
     Digits 256 bytes →
     read_of book bytes place ≡ found_at next p →
     next - place ≤ length buffer →
-    (record_written book p buffer ≡ wrote (next - place)) × (record_left book p buffer ≡ take (next - place) (drop place bytes) ++ drop (next - place) buffer)
+    (record_written book p buffer ≡ Ok (next - place)) × (record_left book p buffer ≡ take (next - place) (drop place bytes) ++ drop (next - place) buffer)

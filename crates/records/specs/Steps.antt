@@ -1,24 +1,19 @@
 -- What the private functions of this crate ensure, in the order of the code. Nothing above the crate cites it.
-use Rattle.std.specs.Prelude.{Bool, cond, ◌&&◌, List, ℕ, ◌+◌, pos, drop}
-use Rattle.ints.specs.Machine.{eq_z}
+use Rattle.std.specs.Prelude.{◌≡◌, ◌≢◌, Bool, true, false, cond, List, ℕ, ℤ, pos, drop, Option, Some, None}
 use Rattle.postings.specs.BitMaps.{bits_from}
+use Rattle.postings.specs.declared.Posting.{Posting}
 use Rattle.records.specs.Fields.{field_of}
-use Rattle.records.specs.Records.{fields_at, zero_present, posting_of, record_length, found_at, refused_at}
-use Rattle.records.specs.declared.Read.{Read}
-use Rattle.records.specs.declared.parts.Step.{Step}
+use Rattle.records.specs.Records.{fields_at, zero_present, posting_of}
 
--- what a bit of the map finds at a place
-unfoldable pub step_at : List ℕ → ℕ → Bool → Step
-step_at bytes at stands =
-    record {
-      number = cond stands (field_of (drop at bytes)) (pos 0);
-      next = cond stands (at + 8) at;
-      empty = stands && eq_z (field_of (drop at bytes)) (pos 0);
-    }
+-- what a bit of the map finds at the front of the bytes: a number, which is 0 where the bit does not stand and nowhere else, and the bytes
+-- behind its field
+abbrev pub Finds : Bool → List ℕ → ℤ → List ℕ → Type 0
+Finds false bytes number rest = (number ≡ pos 0) × (rest ≡ bytes)
+Finds true bytes number rest = (number ≡ field_of bytes) × (number ≢ pos 0) × (rest ≡ drop 8 bytes)
 
--- what the fields of a record are read as
-unfoldable pub fields_read : List ℕ → ℕ → ℕ → ℕ → Read
-fields_read bytes place kind bit_map =
+-- the posting whose fields a bit map names; none where one of them is 0
+unfoldable pub posting_in : ℕ → ℕ → List ℕ → Option Posting
+posting_in kind bit_map bytes =
     let bits = bits_from 3 bit_map in
-    let numbers = fields_at bits (drop (place + 2) bytes) in
-    cond (zero_present bits numbers) (refused_at place 5) (found_at (place + record_length bit_map) (posting_of kind numbers))
+    let numbers = fields_at bits bytes in
+    cond (zero_present bits numbers) None (Some (posting_of kind numbers))

@@ -1,115 +1,72 @@
 // The parts of a record: its length, its bit map, its fields.
-ghost use Rattle.std.specs.Prelude.{◌≡◌, ◌+◌, ◌≤◌, ◌<◌, length, drop};
-ghost use Rattle.std.specs.Int.Count.{ones};
-ghost use Rattle.std.proofs.lemmas.List.Edits.{sets};
+ghost use Rattle.std.specs.Prelude.{◌≡◌, ◌++◌, ◌+◌, ◌≤◌, ◌<◌, length, drop, pos, IsTrue, MatchOption};
 ghost use Rattle.postings.specs.Kinds.{numbers_of, standing};
 ghost use Rattle.postings.specs.BitMaps.{bit_map_of};
-ghost use Rattle.records.specs.Records.{record_length, refused_at, record_of};
-ghost use Rattle.records.specs.Steps.{step_at, fields_read};
+ghost use Rattle.records.specs.Fields.{field_of};
+ghost use Rattle.records.specs.Records.{record_length, record_of};
+ghost use Rattle.records.specs.Steps.{Finds, posting_in};
 
-use crate::Read;
+use crate::fields;
 use postings::Posting;
 
-// How many bytes remain from a place on.
-pub(crate) fn remaining(bytes: &[u8], place: usize) -> usize
-    ensures { result ≡ length (drop place bytes.now) }
+// The bytes from a place on.
+pub(crate) fn rest(bytes: &[u8], place: usize) -> &[u8]
+    ensures { result.now ≡ drop place bytes.now }
 {
-    if bytes.len() <= place {
-        return 0;
-    }
-    bytes.len() - place
+    bytes.get(place..).unwrap_or(&[])
 }
 
-// The ones of the bit map byte are the record's fields.
-fn field_count(bitmap: u8) -> usize
-    ensures { (result ≡ ones bitmap) × (result ≤ 8) }
-{
-    u8::count_ones(bitmap) as usize
-}
-
+// The ones of the bit map are the record's fields.
 pub(crate) fn record_length(bitmap: u8) -> usize
     ensures { result ≡ record_length bitmap }
 {
-    2 + 8 * field_count(bitmap)
+    2 + 8 * bitmap.count_ones() as usize
 }
 
-// What a refused reading gives.
-pub(crate) fn refused(number: u8, place: usize) -> Read
-    ensures { result ≡ refused_at place number }
+// The number that a bit of the map finds at the front of the bytes, and the bytes behind it: 0 where the bit does not stand, none where
+// a field of 0 does.
+fn number_in(fields: &[u8], stands: bool) -> Option<(i64, &[u8])>
+    requires { IsTrue stands → 8 ≤ length fields.now }
+    ensures { MatchOption result (IsTrue stands × (field_of fields.now ≡ pos 0)) (λ p. Finds stands fields.now p.0 p.1.now) }
 {
-    let posting = Posting {
-        kind: 0,
-        first: 0,
-        second: 0,
-        third: 0,
-    };
-    Read {
-        number,
-        place,
-        posting,
+    if !stands {
+        return Some((0, fields));
     }
+    let (number, rest) = fields::split_field(fields).unwrap();
+    if number == 0 {
+        return None;
+    }
+    Some((number, rest))
 }
 
-// What a bit of the map finds at a place: the number, the place after it, and whether it is a field of 0.
-#[derive(Clone, Copy)]
-pub struct Step {
-    pub number: i64,
-    pub next: usize,
-    pub empty: bool,
-}
-
-fn step_at(bytes: &[u8], at: usize, stands: bool) -> Step
-    requires { (step_at bytes.now at stands).next ≤ length bytes.now }
-    ensures { result ≡ step_at bytes.now at stands }
+// The posting whose fields a bit map of at most three bits names; none where one of them is 0.
+pub(crate) fn posting_in(kind: u8, bitmap: u8, fields: &[u8]) -> Option<Posting>
+    requires { (bitmap < 8) × (record_length bitmap ≤ 2 + length fields.now) }
+    ensures { result ≡ posting_in kind bitmap fields.now }
 {
-    if stands {
-        let number = crate::fields::field_at(bytes, at);
-        Step {
-            number,
-            next: at + 8,
-            empty: number == 0,
-        }
-    } else {
-        Step {
-            number: 0,
-            next: at,
-            empty: false,
-        }
-    }
-}
-
-// Reads the fields that a bit map of at most three bits names.
-pub(crate) fn read_fields(bytes: &[u8], place: usize, kind: u8, bitmap: u8) -> Read
-    requires { (bitmap < 8) × (place + record_length bitmap ≤ length bytes.now) }
-    ensures { result ≡ fields_read bytes.now place kind bitmap }
-{
-    let first = step_at(bytes, place + 2, bitmap % 2 == 1);
-    let second = step_at(bytes, first.next, bitmap / 2 % 2 == 1);
-    let third = step_at(bytes, second.next, bitmap / 4 % 2 == 1);
-    if first.empty | second.empty | third.empty {
-        return refused(5, place);
-    }
-    let posting = Posting {
+    let (first, rest) = number_in(fields, bitmap % 2 == 1)?;
+    let (second, rest) = number_in(rest, bitmap / 2 % 2 == 1)?;
+    let (third, _) = number_in(rest, bitmap / 4 % 2 == 1)?;
+    Some(Posting {
         kind,
-        first: first.number,
-        second: second.number,
-        third: third.number,
-    };
-    Read {
-        number: 0,
-        place: third.next,
-        posting,
-    }
+        first,
+        second,
+        third,
+    })
 }
 
 // Stores the record of a posting.
 pub(crate) fn put_record(posting: Posting, bitmap: u8, buffer: &mut [u8])
     requires { (bitmap ≡ bit_map_of (standing (numbers_of posting))) × (length (record_of posting) ≤ length buffer.old) }
-    ensures { buffer.new ≡ sets buffer.old 0 (record_of posting) }
+    ensures { buffer.new ≡ record_of posting ++ drop (length (record_of posting)) buffer.old }
 {
     buffer[0] = posting.kind;
     buffer[1] = bitmap;
-    let second = crate::fields::put_field(buffer, 2, posting.first);
-    let third = crate::fields::put_field(buffer, second, posting.second);
-    crate::fields::put_field(buffer, third, posting.third);
+    let mut at = 2;
+    for number in [posting.first, posting.second, posting.third] {
+        if number != 0 {
+            fields::put_field(&mut buffer[at..], number);
+            at += 8;
+        }
+    }
 }

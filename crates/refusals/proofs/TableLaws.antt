@@ -1,109 +1,141 @@
--- Laws of refusal tables: the number is that of the first row that holds, and 0 means that no row holds. Assumes nothing.
-use Rattle.std.specs.Prelude.{◌≡◌, Bool, cond, List, [], ◌∷◌, ◌++◌, ℕ, ◌<◌, T, ltb}
+-- Laws of refusal tables: the refusal is that of the first row that holds, and none means that no row holds. Assumes nothing.
+use Rattle.std.specs.Prelude.{◌≡◌, Bool, true, false, cond, List, [], ◌∷◌, ◌++◌, ℕ, Option, Some, None, Result, Ok, Err}
 use Rattle.std.proofs.Math.Path.{refl, sym}
-use Rattle.std.proofs.Common.{ap, ◌∙◌, arith, ltb→lt}
-use Rattle.std.proofs.Math.Bool.{true, false}
-use Rattle.std.proofs.Math.Dec.{eqb}
-use borrow.Author.Tests.{eqb-true, ne_eqb}
-use Rattle.ints.specs.Flags.{T_left, T_right}
-use Rattle.refusals.specs.Rows.{Row, row, refusal_by, by_table}
-use Rattle.refusals.specs.Laws.{NoneHolds, numbered, First}
+use Rattle.std.proofs.Common.{ap, ◌∙◌}
+use Rattle.std.proofs.lemmas.Option.{none-some, same_Some}
+use Rattle.refusals.specs.Rows.{Row, row, refusal_by, given_by, by_table, number_of, refused_number}
+use Rattle.refusals.specs.Laws.{NoneHolds, First}
+use Rattle.refusals.specs.declared.Refusal.{Refusal}
 
 -- ---- the first row that holds
 
 -- a row decides where it holds, and the rows after it where it does not
-pub at_row : (n : ℕ) (rows : List Row) {condition : Bool} → condition ≡ true → refusal_by (row n condition ∷ rows) ≡ n
+pub at_row : (refusal : Refusal) (rows : List Row) {condition : Bool} → condition ≡ true → refusal_by (row refusal condition ∷ rows) ≡ Some refusal
 unfolding refusal_by
-at_row n rows e = simp e
+at_row refusal rows e = simp e
 
-pub past_row : (n : ℕ) (rows : List Row) {condition : Bool} → condition ≡ false → refusal_by (row n condition ∷ rows) ≡ refusal_by rows
+pub past_row : (refusal : Refusal) (rows : List Row) {condition : Bool} → condition ≡ false → refusal_by (row refusal condition ∷ rows) ≡ refusal_by rows
 unfolding refusal_by
-past_row n rows e = simp e
+past_row refusal rows e = simp e
 
-pub first : (rows : List Row) (n : ℕ) → 0 < n → refusal_by rows ≡ n → First rows n
+pub first : (rows : List Row) (refusal : Refusal) → refusal_by rows ≡ Some refusal → First rows refusal
 unfolding refusal_by
-first [] n h e = absurd (omega arith)
-first (r ∷ rows) n h e = go r.condition refl (first rows n h)
+first [] refusal e = absurd (none-some refusal e)
+first (r ∷ rows) refusal e = go r.condition refl (first rows refusal)
   where
-    go : (t : Bool) → r.condition ≡ t → (refusal_by rows ≡ n → First rows n) → First (r ∷ rows) n
+    go : (t : Bool) → r.condition ≡ t → (refusal_by rows ≡ Some refusal → First rows refusal) → First (r ∷ rows) refusal
     go true c more =
-        let number : r.number ≡ n = sym (ap (λ (t : Bool). cond t r.number (refusal_by rows)) c) ∙ e in
-        record { before = []; condition = r.condition; after = rows; table = (λ i. row (number i) r.condition ∷ rows); passed = tt; holds = c }
+        let same : r.refusal ≡ refusal = same_Some r.refusal refusal (sym (ap (λ (t : Bool). cond t (Some r.refusal) (refusal_by rows)) c) ∙ e) in
+        record { before = []; condition = r.condition; after = rows; table = (λ i. row (same i) r.condition ∷ rows); passed = tt; holds = c }
     go false c more =
-        let f = more (sym (ap (λ (t : Bool). cond t r.number (refusal_by rows)) c) ∙ e) in
+        let f = more (sym (ap (λ (t : Bool). cond t (Some r.refusal) (refusal_by rows)) c) ∙ e) in
         record { before = r ∷ f.before; condition = f.condition; after = f.after; table = ap (λ (l : List Row). r ∷ l) f.table; passed = (c, f.passed); holds = f.holds }
 
 -- ---- no row that holds
 
-no_number : (t : Bool) (n more : ℕ) → 0 < n → cond t n more ≡ 0 → (t ≡ false) × (more ≡ 0)
-no_number true n more h e = absurd (omega arith)
-no_number false n more h e = (refl, e)
-
-pub none_holds : (rows : List Row) → T (numbered rows) → refusal_by rows ≡ 0 → NoneHolds rows
+pub none_holds : (rows : List Row) → refusal_by rows ≡ None → NoneHolds rows
 unfolding refusal_by
-none_holds [] h e = tt
-none_holds (r ∷ rows) h e =
-    let p = no_number r.condition r.number (refusal_by rows) (ltb→lt 0 r.number (T_left (ltb 0 r.number) (numbered rows) h)) e in
-    (p.0, none_holds rows (T_right (ltb 0 r.number) (numbered rows) h) p.1)
+none_holds [] e = tt
+none_holds (r ∷ rows) e = go r.condition refl (none_holds rows)
+  where
+    go : (t : Bool) → r.condition ≡ t → (refusal_by rows ≡ None → NoneHolds rows) → (r.condition ≡ false) × NoneHolds rows
+    go true c more = absurd (none-some r.refusal (sym e ∙ ap (λ (t : Bool). cond t (Some r.refusal) (refusal_by rows)) c))
+    go false c more = (c, more (sym (ap (λ (t : Bool). cond t (Some r.refusal) (refusal_by rows)) c) ∙ e))
 
-pub accepted : (rows : List Row) → NoneHolds rows → refusal_by rows ≡ 0
+pub accepted : (rows : List Row) → NoneHolds rows → refusal_by rows ≡ None
 unfolding refusal_by
 accepted [] h = refl
 accepted (r ∷ rows) h = simp h.0 (accepted rows h.1)
 
 -- a table in two parts: the second decides where no row of the first holds
-pub in_parts : (rows more : List Row) → T (numbered rows) → refusal_by (rows ++ more) ≡ cond (eqb (refusal_by rows) 0) (refusal_by more) (refusal_by rows)
+pub in_parts : (rows more : List Row) → refusal_by (rows ++ more) ≡ given_by (refusal_by rows) (refusal_by more) Some
 unfolding refusal_by
-in_parts [] more h = refl
-in_parts (r ∷ rows) more h = go r.condition (in_parts rows more (T_right (ltb 0 r.number) (numbered rows) h))
+in_parts [] more = refl
+in_parts (r ∷ rows) more = go r.condition (in_parts rows more)
   where
-    go : (t : Bool) → refusal_by (rows ++ more) ≡ cond (eqb (refusal_by rows) 0) (refusal_by more) (refusal_by rows) → cond t r.number (refusal_by (rows ++ more)) ≡ cond (eqb (cond t r.number (refusal_by rows)) 0) (refusal_by more) (cond t r.number (refusal_by rows))
-    go true e = sym (ap (λ (t : Bool). cond t (refusal_by more) r.number) (ne_eqb r.number 0 (λ z. let l = ltb→lt 0 r.number (T_left (ltb 0 r.number) (numbered rows) h) in omega arith)))
+    go : (t : Bool) → refusal_by (rows ++ more) ≡ given_by (refusal_by rows) (refusal_by more) Some → cond t (Some r.refusal) (refusal_by (rows ++ more)) ≡ given_by (cond t (Some r.refusal) (refusal_by rows)) (refusal_by more) Some
+    go true e = refl
     go false e = e
 
-module _ (rows more : List Row) (positive : T (numbered rows)) where
-  pub decided_earlier : (n : ℕ) → 0 < n → refusal_by rows ≡ n → refusal_by (rows ++ more) ≡ n
-  decided_earlier n h e = in_parts rows more positive ∙ simp (e, ne_eqb n 0 (λ z. omega arith))
+module _ (rows more : List Row) where
+  pub decided_earlier : (refusal : Refusal) → refusal_by rows ≡ Some refusal → refusal_by (rows ++ more) ≡ Some refusal
+  decided_earlier refusal e = in_parts rows more ∙ ap (λ (o : Option Refusal). given_by o (refusal_by more) Some) e
 
-  pub decided_later : refusal_by rows ≡ 0 → refusal_by (rows ++ more) ≡ refusal_by more
-  decided_later e = in_parts rows more positive ∙ simp e
+  pub decided_later : refusal_by rows ≡ None → refusal_by (rows ++ more) ≡ refusal_by more
+  decided_later e = in_parts rows more ∙ ap (λ (o : Option Refusal). given_by o (refusal_by more) Some) e
 
 -- ---- what a call gives
 
-module _ {A : Type 0} (rows : List Row) (asked : A) (refused : ℕ → A) where
-  pub gives_asked : refusal_by rows ≡ 0 → by_table rows asked refused ≡ asked
+module _ {A : Type 0} (rows : List Row) (asked : A) (refused : Refusal → A) where
+  pub gives_asked : refusal_by rows ≡ None → by_table rows asked refused ≡ asked
   unfolding by_table
-  gives_asked e = simp e
+  gives_asked e = ap (λ (o : Option Refusal). given_by o asked refused) e
 
-  pub gives_refusal : (n : ℕ) → 0 < n → refusal_by rows ≡ n → by_table rows asked refused ≡ refused n
+  pub gives_refusal : (refusal : Refusal) → refusal_by rows ≡ Some refusal → by_table rows asked refused ≡ refused refusal
   unfolding by_table
-  gives_refusal n h e = simp (e, ne_eqb n 0 (λ z. omega arith))
+  gives_refusal refusal e = ap (λ (o : Option Refusal). given_by o asked refused) e
 
-  -- a function that gives a refusal its number, and what was asked for 0, gives the table's number
-  pub gives_number : (number : A → ℕ) → number asked ≡ 0 → ((n : ℕ) → number (refused n) ≡ n) → number (by_table rows asked refused) ≡ refusal_by rows
+  -- a function that gives a refusal its number, and what was asked for 0, gives the number of the table's refusal
+  pub gives_number : (number : A → ℕ) → number asked ≡ 0 → ((refusal : Refusal) → number (refused refusal) ≡ number_of refusal) → number (by_table rows asked refused) ≡ refused_number (refusal_by rows)
   unfolding by_table
-  gives_number number a r = go (eqb (refusal_by rows) 0) refl
+  gives_number number a r = go (refusal_by rows)
     where
-      go : (t : Bool) → eqb (refusal_by rows) 0 ≡ t → number (cond t asked (refused (refusal_by rows))) ≡ refusal_by rows
-      go true e = a ∙ sym (eqb-true (refusal_by rows) 0 e)
-      go false e = r (refusal_by rows)
+      go : (o : Option Refusal) → number (given_by o asked refused) ≡ refused_number o
+      go None = a
+      go (Some refusal) = r refusal
+
+  -- what is worked out of what a call gives is given by the same table
+  pub gives_of : {B : Type 0} (f : A → B) → f (by_table rows asked refused) ≡ by_table rows (f asked) (λ (refusal : Refusal). f (refused refusal))
+  unfolding by_table
+  gives_of f = go (refusal_by rows)
+    where
+      go : (o : Option Refusal) → f (given_by o asked refused) ≡ given_by o (f asked) (λ (refusal : Refusal). f (refused refusal))
+      go None = refl
+      go (Some refusal) = refl
+
+-- what a result that was given tells of the table
+module _ {A : Type 0} (rows : List Row) (asked : A) where
+  pub table_accepts : {given : A} → Ok given ≡ by_table rows (Ok asked) Err → (refusal_by rows ≡ None) × (given ≡ asked)
+  unfolding by_table
+  table_accepts {given} e = go (refusal_by rows) e
+    where
+      go : (o : Option Refusal) → Ok given ≡ given_by o (Ok asked) Err → (o ≡ None) × (given ≡ asked)
+      go None e = (refl, cc)
+      go (Some refusal) e = cc
+
+  pub table_refuses : {refusal : Refusal} → Err refusal ≡ by_table rows (Ok asked) Err → refusal_by rows ≡ Some refusal
+  unfolding by_table
+  table_refuses {refusal} e = go (refusal_by rows) e
+    where
+      go : (o : Option Refusal) → Err refusal ≡ given_by o (Ok asked) Err → o ≡ Some refusal
+      go None e = cc
+      go (Some other) e = cc
 
 -- what is so of what was asked, where no row holds, and of every refusal, is so of what a call gives
 pub by_table_lem :
-    {A : Type 0} (P : A → Type 0) (rows : List Row) (asked : A) (refused : ℕ → A) → T (numbered rows) →
-    (NoneHolds rows → P asked) → ((n : ℕ) → eqb n 0 ≡ false → P (refused n)) → P (by_table rows asked refused)
+    {A : Type 0} (P : A → Type 0) (rows : List Row) (asked : A) (refused : Refusal → A) →
+    (NoneHolds rows → P asked) → ((refusal : Refusal) → P (refused refusal)) → P (by_table rows asked refused)
 unfolding by_table
-by_table_lem P rows asked refused h accepts refuses = go (eqb (refusal_by rows) 0) refl
+by_table_lem P rows asked refused accepts refuses = go (refusal_by rows) refl
   where
-    go : (t : Bool) → eqb (refusal_by rows) 0 ≡ t → P (cond t asked (refused (refusal_by rows)))
-    go true e = accepts (none_holds rows h (eqb-true (refusal_by rows) 0 e))
-    go false e = refuses (refusal_by rows) e
+    go : (o : Option Refusal) → refusal_by rows ≡ o → P (given_by o asked refused)
+    go None e = accepts (none_holds rows e)
+    go (Some refusal) e = refuses refusal
 
 -- ---- a table of one row
 
-module _ {A : Type 0} (n : ℕ) (asked : A) (refused : ℕ → A) {condition : Bool} where
-  pub row_passed : condition ≡ false → by_table (row n condition ∷ []) asked refused ≡ asked
-  row_passed e = gives_asked (row n condition ∷ []) asked refused (accepted (row n condition ∷ []) (e, tt))
+module _ {A : Type 0} (refusal : Refusal) (asked : A) (refused : Refusal → A) {condition : Bool} where
+  pub row_passed : condition ≡ false → by_table (row refusal condition ∷ []) asked refused ≡ asked
+  row_passed e = gives_asked (row refusal condition ∷ []) asked refused (accepted (row refusal condition ∷ []) (e, tt))
 
-  pub row_holds : 0 < n → condition ≡ true → by_table (row n condition ∷ []) asked refused ≡ refused n
-  row_holds h e = gives_refusal (row n condition ∷ []) asked refused n h (at_row n [] e)
+  pub row_holds : condition ≡ true → by_table (row refusal condition ∷ []) asked refused ≡ refused refusal
+  row_holds e = gives_refusal (row refusal condition ∷ []) asked refused refusal (at_row refusal [] e)
+
+-- a refusal that it gives is its own
+pub row_refuses : {A : Type 0} (refusal : Refusal) (asked : A) (condition : Bool) {other : Refusal} → by_table {A = Result A Refusal} (row refusal condition ∷ []) (Ok asked) Err ≡ Err other → other ≡ refusal
+unfolding by_table refusal_by
+row_refuses refusal asked condition {other} e = go condition e
+  where
+    go : (t : Bool) → given_by {A = Result _ Refusal} (cond t (Some refusal) None) (Ok asked) Err ≡ Err other → other ≡ refusal
+    go true h = cc
+    go false h = cc

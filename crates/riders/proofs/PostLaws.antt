@@ -1,48 +1,42 @@
 -- What a posting gives, as the code works it out: the rows before 12, then the effect, then the limits of the next book. For any book whose
 -- table ends in row 12. Assumes nothing.
-use Rattle.std.specs.Prelude.{◌≡◌, Bool, true, false, ℕ, ◌<◌, T}
+use Rattle.std.specs.Prelude.{◌≡◌, Bool, true, false, Some, None, Ok, Err}
 use Rattle.std.proofs.Math.Path.{sym}
-use Rattle.std.proofs.Common.{ap, ◌∙◌, arith}
+use Rattle.std.proofs.Common.{ap, ◌∙◌}
 use Rattle.std.proofs.Math.Bool.{not}
 use mathlib.Core.List.{[], ◌∷◌, ◌++◌}
 use Rattle.refusals.specs.Rows.{row, refusal_by, before}
-use Rattle.refusals.specs.Laws.{numbered}
+use Rattle.refusals.specs.declared.Refusal.{Refusal}
+use Rattle.refusals.specs.declared.Refusal.TheVariants.{NextOutOfLimits}
 use Rattle.refusals.proofs.TableLaws.{at_row, past_row, decided_earlier, decided_later, gives_asked, gives_refusal}
 use Rattle.postings.specs.declared.Posting.{Posting}
-use Rattle.postings.specs.declared.Answer.{Answer}
-use Rattle.postings.specs.declared.Answer.TheVariants.{Refused}
-use Rattle.riders.specs.Rules.{Rules, answered_by, left_by}
+use Rattle.riders.specs.Rules.{Rules, posted, given_of}
 
 -- ---- by the table: a row before 12 refuses, or 12 does, or the next book is stored
 
-module _ {Held Posted : Type 0} (posted : Answer → Held → Posted) (rules : Rules Held) (b : Held) (p : Posting) where
-  abbrev given : Posted
-  given = posted (answered_by rules b p) (left_by rules b p)
+module _ {Held : Type 0} (rules : Rules Held) (b : Held) (p : Posting) where
+  refused_by : (refusal : Refusal) → refusal_by (rules.rows b p) ≡ Some refusal → Err refusal ≡ given_of rules b p
+  unfolding given_of
+  refused_by refusal e = sym (gives_refusal (rules.rows b p) (Ok (posted (rules.answer b p) (rules.next b p))) Err refusal e)
 
-  refused_by : (n : ℕ) → 0 < n → refusal_by (rules.rows b p) ≡ n → posted (Refused n) b ≡ given
-  unfolding answered_by left_by
-  refused_by n h e = sym (λ i. posted (gives_refusal (rules.rows b p) (rules.answer b p) Refused n h e i) (gives_refusal (rules.rows b p) (rules.next b p) (λ (m : ℕ). b) n h e i))
-
-  accepted_by : refusal_by (rules.rows b p) ≡ 0 → posted (rules.answer b p) (rules.next b p) ≡ given
-  unfolding answered_by left_by
-  accepted_by e = sym (λ i. posted (gives_asked (rules.rows b p) (rules.answer b p) Refused e i) (gives_asked (rules.rows b p) (rules.next b p) (λ (m : ℕ). b) e i))
+  accepted_by : refusal_by (rules.rows b p) ≡ None → Ok (posted (rules.answer b p) (rules.next b p)) ≡ given_of rules b p
+  unfolding given_of
+  accepted_by e = sym (gives_asked (rules.rows b p) (Ok (posted (rules.answer b p) (rules.next b p))) Err e)
 
   module _
-      (in_limits : Held → Bool) (table : rules.rows b p ≡ before 12 (rules.rows b p) ++ (row 12 (not (in_limits (rules.next b p))) ∷ []))
-      (positive : T (numbered (before 12 (rules.rows b p)))) {n : ℕ} (e : n ≡ refusal_by (before 12 (rules.rows b p)))
+      (in_limits : Held → Bool)
+      (table : rules.rows b p ≡ before NextOutOfLimits (rules.rows b p) ++ (row NextOutOfLimits (not (in_limits (rules.next b p))) ∷ []))
     where
-      pub refused_before : (n ≡ 0 → ⊥) → posted (Refused n) b ≡ given
-      refused_before h =
-          let l : 0 < n = omega arith in
-          refused_by n l (ap refusal_by table ∙ decided_earlier (before 12 (rules.rows b p)) _ positive n l (sym e))
+      pub refused_before : (refusal : Refusal) → refusal_by (before NextOutOfLimits (rules.rows b p)) ≡ Some refusal → Err refusal ≡ given_of rules b p
+      refused_before refusal e = refused_by refusal (ap refusal_by table ∙ decided_earlier (before NextOutOfLimits (rules.rows b p)) _ refusal e)
 
-      module _ (z : n ≡ 0) where
-        last : refusal_by (rules.rows b p) ≡ refusal_by (row 12 (not (in_limits (rules.next b p))) ∷ [])
-        last = ap refusal_by table ∙ decided_later (before 12 (rules.rows b p)) _ positive (sym e ∙ z)
+      module _ (none : refusal_by (before NextOutOfLimits (rules.rows b p)) ≡ None) where
+        last : refusal_by (rules.rows b p) ≡ refusal_by (row NextOutOfLimits (not (in_limits (rules.next b p))) ∷ [])
+        last = ap refusal_by table ∙ decided_later (before NextOutOfLimits (rules.rows b p)) _ none
 
-        pub refused_12 : in_limits (rules.next b p) ≡ false → posted (Refused 12) b ≡ given
-        refused_12 f = refused_by 12 (omega arith) (last ∙ at_row 12 [] (ap not f))
+        pub refused_12 : in_limits (rules.next b p) ≡ false → Err NextOutOfLimits ≡ given_of rules b p
+        refused_12 f = refused_by NextOutOfLimits (last ∙ at_row NextOutOfLimits [] (ap not f))
 
-        pub stored : in_limits (rules.next b p) ≡ true → posted (rules.answer b p) (rules.next b p) ≡ given
+        pub stored : in_limits (rules.next b p) ≡ true → Ok (posted (rules.answer b p) (rules.next b p)) ≡ given_of rules b p
         unfolding refusal_by
-        stored f = accepted_by (last ∙ past_row 12 [] (ap not f))
+        stored f = accepted_by (last ∙ past_row NextOutOfLimits [] (ap not f))

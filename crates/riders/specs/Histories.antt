@@ -1,21 +1,24 @@
 -- A history (01, The tally): a list of postings, each given to the book that the one before it gave back, accepted or refused, and a
 -- tally that is fed each posting, whether it was accepted and, for a bill, the line answered: never the book, and no other answer. For the
 -- rules of any book, and any tally. Law: what one posting keeps of book and tally, a list of them keeps. Assumes nothing.
-use Rattle.std.specs.Prelude.{Bool, cond, eqb, ℤ, pos, get_or}
+use Rattle.std.specs.Prelude.{Bool, cond, ℤ, pos, get_or, Result, is_ok}
 use mathlib.Core.List.{List, [], ◌∷◌}
-use Rattle.postings.specs.Answers.{answer_number, answer_values}
-use Rattle.postings.specs.Kinds.{Kind, bill, is_kind, kind_of}
+use Rattle.refusals.specs.declared.Refusal.{Refusal}
+use Rattle.postings.specs.Answers.{answer_values}
+use Rattle.postings.specs.Kinds.{is_kind, kind_of}
+use Rattle.postings.specs.declared.kinds.Kind.{Kind}
+use Rattle.postings.specs.declared.kinds.Kind.TheVariants.{Bill}
 use Rattle.postings.specs.declared.Posting.{Posting}
 use Rattle.postings.specs.declared.Answer.{Answer}
 use Rattle.riders.specs.Rules.{Rules, answered_by, left_by}
 
--- whether a posting was accepted: the answer has no refusal's number
-abbrev pub was_accepted : Answer → Bool
-was_accepted answer = eqb (answer_number answer) 0
+-- whether a posting was accepted: it was answered, and not refused
+abbrev pub was_accepted : Result Answer Refusal → Bool
+was_accepted answer = is_ok answer
 
 -- the line answered, the one value of a bill's answer; 0 for any other kind
-abbrev pub line_answered : Kind → Answer → ℤ
-line_answered kind answer = cond (is_kind bill kind) (get_or (answer_values answer) 0 (pos 0)) (pos 0)
+abbrev pub line_answered : Kind → Result Answer Refusal → ℤ
+line_answered kind answer = cond (is_kind Bill kind) (get_or (answer_values answer) 0 (pos 0)) (pos 0)
 
 -- what the tally is fed of a posting
 pub record Entry : Type 0 where
@@ -23,7 +26,7 @@ pub record Entry : Type 0 where
   pub accepted : Bool
   pub line : ℤ
 
-abbrev pub entry_of : Posting → Answer → Entry
+abbrev pub entry_of : Posting → Result Answer Refusal → Entry
 entry_of p answer = record { posting = p; accepted = was_accepted answer; line = line_answered (kind_of p.kind) answer }
 
 module _ {Held : Type 0} (rules : Rules Held) where

@@ -6,7 +6,8 @@ use Rattle.std.proofs.Math.Bool.{true, false, not}
 use Rattle.std.proofs.Common.{true≢false}
 use borrow.Author.Tests.{not-false, leb-true}
 use Rattle.ints.specs.Flags.{both}
-use Rattle.postings.specs.Kinds.{Kind, cost, sales, bill, settle, month_end, adjust, reconcile, unknown}
+use Rattle.postings.specs.declared.kinds.Kind.{Kind}
+use Rattle.postings.specs.declared.kinds.Kind.TheVariants.{Cost, Sales, Bill, Settle, MonthEnd, Adjust, Reconcile, Unknown}
 
 -- the month moves on, December to January
 unfoldable pub month_after : ℕ → ℕ
@@ -17,22 +18,21 @@ unfoldable pub month_in_limits : ℕ → Bool → Bool → Bool
 month_in_limits month settles settled = leb 1 month && (leb month 12 && (not settled || settles))
 
 -- 8: month or settled state forbids it
-unfoldable pub forbidden : Kind → Bool → Bool → Bool
-forbidden cost settles settled = settled
-forbidden sales settles settled = settled
-forbidden bill settles settled = false
-forbidden settle settles settled = settled || not settles
-forbidden month_end settles settled = settles && not settled
-forbidden adjust settles settled = false
-forbidden reconcile settles settled = false
-forbidden unknown settles settled = false
+abbrev pub forbidden : Kind → Bool → Bool → Bool
+forbidden Cost settles settled = settled
+forbidden Sales settles settled = settled
+forbidden Bill settles settled = false
+forbidden Settle settles settled = settled || not settles
+forbidden MonthEnd settles settled = settles && not settled
+forbidden Adjust settles settled = false
+forbidden Reconcile settles settled = false
+forbidden Unknown settles settled = false
 
 -- ---- what an accepted posting finds
 
 module _ (settles settled : Bool) where
   -- a settlement finds an unsettled month that settles
-  pub settle_allowed : forbidden settle settles settled ≡ false → (settled ≡ false) × (settles ≡ true)
-  unfolding forbidden
+  pub settle_allowed : forbidden Settle settles settled ≡ false → (settled ≡ false) × (settles ≡ true)
   settle_allowed e = go settled settles e
     where
       go : (settled settles : Bool) → settled || not settles ≡ false → (settled ≡ false) × (settles ≡ true)
@@ -45,8 +45,8 @@ module _ (settles settled : Bool) where
     month_to = leb-true month 12 (both (leb month 12) _ (both (leb 1 month) _ limits).1).0
 
     -- a month ends settled if it settles, and unsettled if not
-    pub month_settled : forbidden month_end settles settled ≡ false → settled ≡ settles
-    unfolding month_in_limits forbidden
+    pub month_settled : forbidden MonthEnd settles settled ≡ false → settled ≡ settles
+    unfolding month_in_limits
     month_settled f = go settled settles (both (leb month 12) _ (both (leb 1 month) _ limits).1).1 f
       where
         go : (settled settles : Bool) → not settled || settles ≡ true → settles && not settled ≡ false → settled ≡ settles

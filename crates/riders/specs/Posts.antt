@@ -1,13 +1,13 @@
 -- What a posting gives, as the code works it out: what the effect may rely on, and what is asked of it. For any book whose table ends in
 -- row 12. Assumes nothing.
-use Rattle.std.specs.Prelude.{◌≡◌, refl, Bool, true, false, ℕ, T, ℤ}
+use Rattle.std.specs.Prelude.{◌≡◌, refl, Bool, true, false, ℤ, None}
 use Rattle.std.proofs.Math.Path.{sym}
 use Rattle.std.proofs.Common.{ap, ◌∙◌, true≢false}
 use Rattle.std.proofs.Math.Bool.{not}
 use mathlib.Core.List.{List, ◌∷◌}
 use Rattle.std.proofs.lemmas.Bool.{not-false}
 use Rattle.refusals.specs.Rows.{Row, row, refusal_by}
-use Rattle.refusals.specs.Laws.{numbered}
+use Rattle.refusals.specs.declared.Refusal.TheVariants.{UnknownKind, StrayNumber, BookOutOfLimits, OutOfRange}
 use Rattle.refusals.proofs.TableLaws.{none_holds}
 use Rattle.postings.specs.Kinds.{kind_of, unknown_kind, stray_number, out_of_range}
 use Rattle.postings.specs.Ranged.{Ranged, none_out_of_range}
@@ -21,11 +21,16 @@ use Rattle.riders.specs.Runs.{run, factor_for, run_in_limits, filed_run, filed_i
 -- what the rows that every table begins with have shown, where no row before 12 holds
 module _ (book : Book) {Held : Type 0} (in_limits : Held → Bool) (b : Held) (p : Posting) (rest : List Row) where
   abbrev begins : List Row
-  begins = row 2 (unknown_kind book p.kind) ∷ row 3 (stray_number book p) ∷ row 6 (not (in_limits b)) ∷ row 7 (out_of_range book p) ∷ rest
+  begins =
+      row UnknownKind (unknown_kind book p.kind)
+      ∷ row StrayNumber (stray_number book p)
+      ∷ row BookOutOfLimits (not (in_limits b))
+      ∷ row OutOfRange (out_of_range book p)
+      ∷ rest
 
-  pub shown : T (numbered begins) → {n : ℕ} → n ≡ refusal_by begins → n ≡ 0 → (in_limits b ≡ true) × Ranged book (kind_of p.kind) p × (unknown_kind book p.kind ≡ false)
-  shown positive e z =
-      let none = none_holds begins positive (sym e ∙ z) in
+  pub shown : refusal_by begins ≡ None → (in_limits b ≡ true) × Ranged book (kind_of p.kind) p × (unknown_kind book p.kind ≡ false)
+  shown e =
+      let none = none_holds begins e in
       (not-false _ none.1.1.0, none_out_of_range book p none.1.1.1.0, none.0)
 
 -- ---- what is asked of the effect

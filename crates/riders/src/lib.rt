@@ -5,7 +5,7 @@ ghost use Rattle.std.specs.Prelude.{◌≡◌};
 ghost use Rattle.amounts.specs.Amounts.{points};
 ghost use Rattle.riders.specs.Runs.{no_run, narrowed, filed_run, run_in_limits};
 
-use amounts::{Cents, Points};
+use amounts::{Cents, Points, Stored};
 
 pub mod months;
 
@@ -14,7 +14,7 @@ const BEYOND: i32 = Points::MOST + 1;
 
 // A factor and the cents that are due under it: document 01's f and d, or q and Q while it is pending.
 #[repr(C)]
-#[derive(Clone, Copy)]
+#[derive(Clone, Copy, Debug, PartialEq, Eq)]
 pub struct Run {
     pub factor: Points,
     pub due: Cents,

@@ -4,6 +4,7 @@ ghost use Rattle.postings.specs.Kinds.{kind_of};
 ghost use Rattle.riders.specs.Months.{month_after, month_in_limits, forbidden};
 
 use postings::Posting;
+use postings::kinds::Kind;
 
 // The next month; from December on it is January.
 pub fn month_after(month: u8) -> u8
@@ -23,12 +24,10 @@ pub fn in_limits(month: u8, settles: bool, settled: bool) -> bool
 pub fn is_forbidden(posting: Posting, settles: bool, settled: bool) -> bool
     ensures { result ≡ forbidden (kind_of posting.kind) settles settled }
 {
-    let kind = posting.kind;
-    match kind {
-        1 => settled,
-        2 => settled,
-        4 => settled | !settles,
-        5 => settles & !settled,
-        _ => false,
+    match Kind::from(posting.kind) {
+        Kind::Cost | Kind::Sales => settled,
+        Kind::Settle => settled | !settles,
+        Kind::MonthEnd => settles & !settled,
+        Kind::Bill | Kind::Adjust | Kind::Reconcile | Kind::Unknown => false,
     }
 }

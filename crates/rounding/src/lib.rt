@@ -45,13 +45,10 @@ fn with_sign(a: i64, n: u64) -> i64
     requires { n ≤ nat_abs a }
     ensures { result ≡ with_sign a n }
 {
-    if 0 <= a {
-        return n as i64;
+    if a < 0 {
+        return n.wrapping_neg().cast_signed();
     }
-    if n == 0 {
-        return 0;
-    }
-    !((n - 1) as i64)
+    n as i64
 }
 
 // round(a/b), for every a and every b: a divisor below 1 gives 0.
@@ -61,7 +58,7 @@ pub fn round_div(a: i64, b: i64) -> i64
     if b < 1 {
         return 0;
     }
-    with_sign(a, nearest(ints::size(a), ints::size(b)))
+    with_sign(a, nearest(a.unsigned_abs(), b.unsigned_abs()))
 }
 
 // 100000 * part / whole to the nearest whole number, by two steps of long division: 100000 * part need not fit.
@@ -88,8 +85,8 @@ pub fn weight(secondary: i64, primary: i64) -> i64
     if !ints::in_range(primary, 0, WEIGHED) {
         return 0;
     }
-    let part = ints::size(secondary);
-    let whole = part + ints::size(primary);
+    let part = secondary.unsigned_abs();
+    let whole = part + primary.unsigned_abs();
     if whole == 0 {
         return 0;
     }

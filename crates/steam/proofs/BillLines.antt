@@ -10,6 +10,7 @@ use Rattle.ints.specs.Range.{Between, Within, between_same}
 use Rattle.ints.specs.Bound.{bounds, within_by}
 use Rattle.rounding.proofs.RoundLaws.{rounds}
 use Rattle.amounts.specs.Amounts.{cents, points}
+use Rattle.amounts.specs.declared.Cents.{Cents}
 use Rattle.amounts.specs.declared.Points.{Points}
 use Rattle.riders.specs.Lines.{together, line_of, part_of, no_line}
 use Rattle.steam_rules.specs.declared.SteamBook.{SteamBook}
@@ -17,8 +18,7 @@ use Rattle.steam_rules.specs.Next.{factors_of, dues_less}
 use Rattle.steam_rules.specs.Fours.{Four, as_four, at}
 use Rattle.steam_rules.specs.Ranges.{PointsWithin, BookWithin}
 use Rattle.steam.specs.declared.bills.Factors.{Factors}
-use Rattle.steam.specs.declared.bills.Totals.{Totals}
-use Rattle.steam.specs.declared.bills.Lines.{Lines}
+use Rattle.steam.specs.declared.bills.UpTo.{UpTo}
 use Rattle.steam.specs.Lines.{as_factors, totals_of, lines_of}
 
 -- what is due under run i + 1
@@ -30,7 +30,7 @@ due_at b i = (get_or b.dues i (cents (pos 0))).0
 pub same_factors : {a b : ℤ} → a ≡ b → as_factors a ≡ as_factors b
 same_factors e = λ i. as_factors (e i)
 
-pub record TotalsWithin (t : Totals) : Type 0 where
+pub record TotalsWithin (t : UpTo Factors) : Type 0 where
   pub first : Within 500000 t.first.0
   pub second : Within 500000 t.second.0
   pub third : Within 500000 t.third.0
@@ -50,7 +50,7 @@ module _ (fs : List Points) (last : Points) where
   pub totals_are :
       {one two three four all : Factors} → length fs ≡ 4 → one ≡ as_factors (pos 0 +ℤ (factor_at 0).0) → two ≡ as_factors (one.0 +ℤ (factor_at 1).0) →
       three ≡ as_factors (two.0 +ℤ (factor_at 2).0) → four ≡ as_factors (three.0 +ℤ (factor_at 3).0) → all ≡ as_factors (four.0 +ℤ last.0) →
-      ◌≡◌ {A = Totals} (record { first = one; second = two; third = three; fourth = four; all = all }) (totals_of (fs ++ (last ∷ [])))
+      ◌≡◌ {A = UpTo Factors} (record { first = one; second = two; third = three; fourth = four; all = all }) (totals_of (fs ++ (last ∷ [])))
   totals_are count e₁ e₂ e₃ e₄ e₅ =
       let f = (factor_at 0).0 in
       let g = (factor_at 1).0 in
@@ -65,7 +65,7 @@ module _ (fs : List Points) (last : Points) where
       ∙ same_factors (solve 5 (λ f g h k l. f :+ (g :+ (h :+ (k :+ # 0))) :+ l := f :+ (g :+ (h :+ (k :+ (l :+ # 0))))) tt f g h k last.0) in
       (λ i. record { first = s₁ i; second = s₂ i; third = s₃ i; fourth = s₄ i; all = s₅ i }) ∙ ap totals_of (five count)
 
-  pub totals_within : {t : Totals} → Four PointsWithin fs → PointsWithin last → t ≡ totals_of (fs ++ (last ∷ [])) → TotalsWithin t
+  pub totals_within : {t : UpTo Factors} → Four PointsWithin fs → PointsWithin last → t ≡ totals_of (fs ++ (last ∷ [])) → TotalsWithin t
   totals_within w l e =
       let s = e ∙ ap totals_of (sym (five w.count)) in
       let f = at (points (pos 0)) w 0 (omega arith) in
@@ -116,7 +116,7 @@ module _ (u : ℤ) (b : SteamBook) where
 
   -- ---- sizes
 
-  pub record LinesWithin (lines : Lines) : Type 0 where
+  pub record LinesWithin (lines : UpTo Cents) : Type 0 where
     pub first : Within 60000000000 lines.first.0
     pub second : Within 60000000000 lines.second.0
     pub third : Within 60000000000 lines.third.0
@@ -127,7 +127,7 @@ module _ (u : ℤ) (b : SteamBook) where
   unfolding line_of
   line_within fs us h = within_by (search (bounds, rounds, us, h) depth 30) tt
 
-  pub lines_within : (lines : Lines) → BookWithin b → Between (neg_ℤ (pos 10000000)) (pos 10000000) u → lines ≡ lines_of u (factors_of b) → LinesWithin lines
+  pub lines_within : (lines : UpTo Cents) → BookWithin b → Between (neg_ℤ (pos 10000000)) (pos 10000000) u → lines ≡ lines_of u (factors_of b) → LinesWithin lines
   lines_within lines w us e =
       let t = totals_within b.factors b.reconciliation.run.factor {t = totals_of (factors_of b)} w.runs.factors w.runs.reconciliation.factor refl in
       record {

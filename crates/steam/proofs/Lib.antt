@@ -3,4 +3,3 @@ pub mod BillLines
 pub mod MonthEnds
 pub mod Parts
 pub mod Settling
-pub mod ByKind

@@ -1,6 +1,7 @@
 -- What a month's end makes of the runs, over what the code stores. Assumes nothing.
 use mathlib.Core.Path.{◌≡◌, sym, ap, ◌∙◌}
-use Prim.Native.Nat.{ℕ, zero, suc, ◌-◌, ◌≤◌}
+use Prim.Native.Nat.{ℕ, zero, suc, ◌-◌, ◌<◌}
+use Rattle.std.specs.Prelude.{Option, Some, None, IfSome}
 use native.Mathlib.Omega.{arith}
 use lib.IntN.{ℤ, pos, ◌+ℤ◌}
 use lib.ListN.{set}
@@ -20,10 +21,6 @@ use Rattle.steam.proofs.BillLines.{due_at}
 
 -- ---- the run that enters
 
-pub none_enters : (run : ℕ) (b : SteamBook) → run ≡ 0 → b ≡ entered run b
-unfolding entered
-none_enters run b e = ap (λ (n : ℕ). entered n b) (sym e)
-
 -- a book with a run entered, over what the code stores
 abbrev pub entered_as : SteamBook → ℕ → ℤ → Run → SteamBook
 entered_as b place carried none =
@@ -39,15 +36,15 @@ entered_as b place carried none =
       reconciliation = b.reconciliation;
     }
 
-pub run_enters : (run place : ℕ) (b : SteamBook) {carried : ℤ} {none : Run} → run ≡ suc place → carried ≡ b.carried.0 +ℤ due_at b place → none ≡ no_run → entered_as b place carried none ≡ entered run b
+pub run_enters : (place : ℕ) (b : SteamBook) {carried : ℤ} {none : Run} → carried ≡ b.carried.0 +ℤ due_at b place → none ≡ no_run → entered_as b place carried none ≡ entered (Some place) b
 unfolding entered
-run_enters run place b r e n = (λ i. entered_as b place (e i) (n i)) ∙ ap (λ (k : ℕ). entered k b) (sym r)
+run_enters place b e n = λ i. entered_as b place (e i) (n i)
 
 -- how large the account can be before the reconciliation's month
-pub entered_within : (run : ℕ) (b : SteamBook) → run ≤ 4 → BookWithin b → Within 2000000000000 (entered run b).carried.0 × RunWithin (entered run b).reconciliation.run
+pub entered_within : (run : Option ℕ) (b : SteamBook) → IfSome run (λ (place : ℕ). place < 4) → BookWithin b → Within 2000000000000 (entered run b).carried.0 × RunWithin (entered run b).reconciliation.run
 unfolding entered
-entered_within zero b m w = (let carried = w.carried in omega signed, w.runs.reconciliation)
-entered_within (suc i) b m w = (
+entered_within None b m w = (let carried = w.carried in omega signed, w.runs.reconciliation)
+entered_within (Some i) b m w = (
   within_by (b_add (b_between w.carried) (b_between (at (cents (pos 0)) w.runs.dues i (omega arith)))) tt,
   w.runs.reconciliation,
 )
@@ -55,10 +52,6 @@ entered_within (suc i) b m w = (
 -- ---- the reconciliation's month
 
 module _ (b : SteamBook) where
-  pub none_runs : b.reconciliation.months ≡ 0 → b ≡ reconciled b
-  unfolding reconciled
-  none_runs e = ap (λ (n : ℕ). month_lost n b) (sym e)
-
   pub last_month :
       {carried : ℤ} {none : Reconciliation} → b.reconciliation.months ≡ 1 → carried ≡ b.carried.0 +ℤ b.reconciliation.run.due.0 → none ≡ no_reconciliation →
       with_account b (cents carried) none ≡ reconciled b

@@ -1,16 +1,16 @@
 -- The factors up to each run together, and their lines, as the code passes them on.
 use Rattle.std.specs.Prelude.{List, ℤ, take}
 use Rattle.amounts.specs.Amounts.{cents}
+use Rattle.amounts.specs.declared.Cents.{Cents}
 use Rattle.amounts.specs.declared.Points.{Points}
 use Rattle.riders.specs.Lines.{together, line_of}
 use Rattle.steam.specs.declared.bills.Factors.{Factors}
-use Rattle.steam.specs.declared.bills.Totals.{Totals}
-use Rattle.steam.specs.declared.bills.Lines.{Lines}
+use Rattle.steam.specs.declared.bills.UpTo.{UpTo}
 
 abbrev pub as_factors : ℤ → Factors
 as_factors z = record { 0 = z }
 
-abbrev pub totals_of : List Points → Totals
+abbrev pub totals_of : List Points → UpTo Factors
 totals_of factors =
     record {
       first = as_factors (together (take 1 factors));
@@ -20,7 +20,7 @@ totals_of factors =
       all = as_factors (together factors);
     }
 
-abbrev pub lines_of : ℤ → List Points → Lines
+abbrev pub lines_of : ℤ → List Points → UpTo Cents
 lines_of u factors =
     record {
       first = cents (line_of u (take 1 factors));

@@ -1,15 +1,15 @@
 -- What the code's effects are held to: the rules' own answer and next book by kind, and whether the limits let a book be stored.
 use Rattle.std.specs.Prelude.{Bool}
-use Rattle.postings.specs.Kinds.{Kind}
+use Rattle.postings.specs.declared.kinds.Kind.{Kind}
 use Rattle.postings.specs.declared.Posting.{Posting}
 use Rattle.steam_rules.specs.declared.SteamBook.{SteamBook}
-use Rattle.steam_rules.specs.declared.Posted.{Posted}
-use Rattle.steam_rules.specs.Book.{posted}
+use Rattle.postings.specs.declared.Posted.{Posted}
+use Rattle.riders.specs.Rules.{posted}
 use Rattle.steam_rules.specs.Next.{next_at, answer_at}
 use Rattle.steam_rules.specs.Limits.{in_limits}
 
-abbrev pub effect_at : Kind → SteamBook → Posting → Posted
+abbrev pub effect_at : Kind → SteamBook → Posting → Posted SteamBook
 effect_at kind b p = posted (answer_at kind b p) (next_at kind b p)
 
-abbrev pub fits : Posted → Bool
+abbrev pub fits : Posted SteamBook → Bool
 fits r = in_limits r.book

@@ -2,37 +2,27 @@
 #![tactic(auto)]
 
 ghost use Rattle.std.specs.Prelude.{◌≡◌};
-ghost use Rattle.steam_rules.specs.Book.{refused};
 ghost use Rattle.steam_rules.specs.Refusals.{post_of};
 
-use postings::{Answer, Posting};
-use steam_rules::{Posted, SteamBook};
+use found::Found;
+use postings::{Posted, Posting};
+use refusals::Refusal;
+use steam_rules::SteamBook;
 
+mod bill;
 mod bills;
 mod effects;
+mod found;
 mod month_ends;
 
-// A refusal, with the book as it was.
-fn refuse(book: SteamBook, number: u8) -> Posted
-    ensures { result ≡ refused book number }
-{
-    Posted {
-        answer: Answer::Refused(number),
-        book,
-    }
-}
-
-// What a posting gives: the refusal's number and the book as it was, or the answer and the next book.
-pub fn post(book: SteamBook, posting: Posting) -> Posted
+// What a posting gives: the answer and the next book, or a refusal, which leaves the book as it was.
+pub fn post(book: SteamBook, posting: Posting) -> Result<Posted<SteamBook>, Refusal>
     ensures { result ≡ post_of book posting }
 {
-    let number = steam_refusals::refusal_before(book, posting);
-    if number != 0 {
-        return refuse(book, number);
-    }
-    let posted = effects::effect(book, posting);
+    let kind = steam_refusals::accepted(book, posting)?;
+    let posted = Found { book }.effect(kind, posting);
     if !steam_refusals::limits::in_limits(posted.book) {
-        return refuse(book, 12);
+        return Err(Refusal::NextOutOfLimits);
     }
-    posted
+    Ok(posted)
 }

@@ -3,27 +3,23 @@ ghost use Rattle.std.specs.Prelude.{◌≡◌};
 ghost use Rattle.steam_rules.specs.Calendar.{settles, entering};
 
 // Whether the month settles: March, June, September and December do.
+#[tactic(auto, unfolding(steam_rules::specs::Calendar::settles))]
 pub fn settles(month: u8) -> bool
     ensures { result ≡ settles month }
 {
     (month == 3) | ((month == 6) | ((month == 9) | (month == 12)))
 }
 
-// The run that pending enters at the month's end: 1 to 4, or 0 for none.
-pub fn entering(month: u8) -> u8
+// The run that pending enters at the month's end, by its place among the four.
+#[tactic(auto, unfolding(steam_rules::specs::Calendar::entering))]
+pub fn entering(month: u8) -> Option<usize>
     ensures { result ≡ entering month }
 {
-    if month == 2 {
-        return 1;
+    match month {
+        2 => Some(0),
+        5 => Some(1),
+        8 => Some(2),
+        11 => Some(3),
+        _ => None,
     }
-    if month == 5 {
-        return 2;
-    }
-    if month == 8 {
-        return 3;
-    }
-    if month == 11 {
-        return 4;
-    }
-    0
 }

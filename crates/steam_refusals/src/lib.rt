@@ -2,85 +2,87 @@
 #![tactic(auto)]
 
 ghost use Rattle.std.specs.Prelude.{◌≡◌, true};
-ghost use Rattle.refusals.specs.Rows.{refusal_by, before};
+ghost use Rattle.refusals.specs.Rows.{by_table, before};
 ghost use Rattle.postings.specs.Kinds.{kind_of};
 ghost use Rattle.postings.specs.Ranged.{Ranged};
 ghost use Rattle.steam_rules.specs.Limits.{in_limits};
 ghost use Rattle.steam_rules.specs.Refusals.{still_runs, nothing_sold, too_small, rows_of};
 
+use postings::kinds::Kind;
 use postings::{Book, Posting};
+use refusals::{Refusal, refuse_if};
 use steam_rules::{Mmbtu, SteamBook};
 
 pub mod calendar;
 pub mod limits;
 
 // Refusal 9: a reconciliation while one runs.
-fn still_runs(book: SteamBook, posting: Posting) -> bool
-    ensures { result ≡ still_runs (kind_of posting.kind) book }
+fn still_runs(kind: Kind, book: SteamBook) -> bool
+    ensures { result ≡ still_runs kind book }
 {
-    if posting.kind == 7 {
-        return !(book.reconciliation.months == 0);
+    match kind {
+        Kind::Reconcile => book.reconciliation.months != 0,
+        _ => false,
     }
-    false
 }
 
 // Refusal 10: a settlement of no sales, or over determinants below 1.
-fn sold_nothing(book: SteamBook, posting: Posting) -> bool
-    requires { (in_limits book ≡ true) × Ranged Book.Steam (kind_of posting.kind) posting }
-    ensures { result ≡ nothing_sold (kind_of posting.kind) book posting }
+fn sold_nothing(kind: Kind, book: SteamBook, posting: Posting) -> bool
+    requires { (in_limits book ≡ true) × Ranged Book.Steam kind posting }
+    ensures { result ≡ nothing_sold kind book posting }
 {
-    if posting.kind == 4 {
-        let quarters = book.quarters;
-        let adjustment = Mmbtu(posting.first);
-        let determinants = steam_settlement::determinants::determinants_of(
-            book.period.sales,
-            quarters,
-            adjustment,
-        );
-        return (book.period.sales.0 == 0) | (determinants.0 < 1);
+    match kind {
+        Kind::Settle => {
+            let determinants = steam_settlement::determinants::determinants_of(
+                book.period.sales,
+                book.quarters,
+                Mmbtu(posting.first),
+            );
+            (book.period.sales.0 == 0) | (determinants.0 < 1)
+        }
+        _ => false,
     }
-    false
 }
 
 // Refusal 11: an adjustment of no more than a tenth of the annual fuel cost.
-fn too_small(posting: Posting) -> bool
-    requires { Ranged Book.Steam (kind_of posting.kind) posting }
-    ensures { result ≡ too_small (kind_of posting.kind) posting }
+fn too_small(kind: Kind, posting: Posting) -> bool
+    requires { Ranged Book.Steam kind posting }
+    ensures { result ≡ too_small kind posting }
 {
-    if posting.kind == 6 {
-        let size = ints::size(posting.first);
-        return !(posting.second < 10 * (size as i64));
+    match kind {
+        Kind::Adjust => {
+            let size = posting.first.unsigned_abs();
+            !(posting.second < 10 * (size as i64))
+        }
+        _ => false,
     }
-    false
 }
 
-// The number of the first row that holds, or 0 where none does.
-pub fn refusal_before(book: SteamBook, posting: Posting) -> u8
-    ensures { result ≡ refusal_by (before 12 (rows_of book posting)) }
+// The posting's kind, or the refusal of the first row that holds.
+#[tactic(auto, unfolding(refusals::specs::Rows::refusal_by, refusals::specs::Rows::by_table, refusals::specs::Rows::before, refusals::specs::Rows::number_of))]
+pub fn accepted(book: SteamBook, posting: Posting) -> Result<Kind, Refusal>
+    ensures { result ≡ by_table (before Refusal.NextOutOfLimits (rows_of book posting)) (Ok (kind_of posting.kind)) Err }
 {
-    if postings::unknown_kind(Book::Steam, posting) {
-        return 2;
-    }
-    if postings::stray_number(Book::Steam, posting) {
-        return 3;
-    }
-    if !limits::in_limits(book) {
-        return 6;
-    }
-    if postings::out_of_range(Book::Steam, posting) {
-        return 7;
-    }
-    if riders::months::is_forbidden(posting, calendar::settles(book.month), book.settled) {
-        return 8;
-    }
-    if still_runs(book, posting) {
-        return 9;
-    }
-    if sold_nothing(book, posting) {
-        return 10;
-    }
-    if too_small(posting) {
-        return 11;
-    }
-    0
+    let kind = Kind::from(posting.kind);
+    refuse_if(
+        postings::unknown_kind(Book::Steam, posting),
+        Refusal::UnknownKind,
+    )?;
+    refuse_if(
+        postings::stray_number(Book::Steam, posting),
+        Refusal::StrayNumber,
+    )?;
+    refuse_if(!limits::in_limits(book), Refusal::BookOutOfLimits)?;
+    refuse_if(
+        postings::out_of_range(Book::Steam, posting),
+        Refusal::OutOfRange,
+    )?;
+    refuse_if(
+        riders::months::is_forbidden(posting, calendar::settles(book.month), book.settled),
+        Refusal::Forbidden,
+    )?;
+    refuse_if(still_runs(kind, book), Refusal::StillRuns)?;
+    refuse_if(sold_nothing(kind, book, posting), Refusal::NothingSold)?;
+    refuse_if(too_small(kind, posting), Refusal::TooSmall)?;
+    Ok(kind)
 }

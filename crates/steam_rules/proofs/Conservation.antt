@@ -1,33 +1,35 @@
 -- No cent is lost: what book and tally share is so of a fresh book, each posting keeps it, and so does a list of them; the claim follows
 -- from it. Assumes nothing.
-use mathlib.Core.Path.{◌≡◌, refl, sym, ap, ◌∙◌}
+use mathlib.Core.Path.{◌≡◌, refl, sym, ap, ◌∙◌, subst}
 use mathlib.Core.Bool.{Bool, true, false, cond, not, true≢false}
 use mathlib.Core.List.{List}
 use Prim.Native.Nat.{ℕ, zero, suc}
+use Rattle.std.specs.Prelude.{Option, Some, None, is_some, is_none, Result, Ok, Err}
 use lib.IntN.{ℤ, pos, ◌+ℤ◌}
 use Rattle.ints.specs.Ring.{solve, ◌:+◌, ◌:=◌}
+use Rattle.refusals.specs.declared.Refusal.{Refusal}
 use Rattle.refusals.proofs.TableLaws.{by_table_lem}
-use Rattle.postings.specs.Kinds.{Kind, cost, sales, bill, settle, month_end, adjust, reconcile, unknown, kind_of, table_of, is_none, unknown_kind}
+use Rattle.postings.specs.Kinds.{kind_of, table_of, unknown_kind}
+use Rattle.postings.specs.declared.kinds.Kind.{Kind}
+use Rattle.postings.specs.declared.kinds.Kind.TheVariants.{Cost, Sales, Bill, Settle, MonthEnd, Adjust, Reconcile, Unknown}
 use Rattle.postings.specs.declared.Book.TheVariants.{Steam}
 use Rattle.postings.specs.declared.Posting.{Posting}
 use Rattle.postings.specs.declared.Answer.{Answer}
-use Rattle.postings.specs.declared.Answer.TheVariants.{Done}
 use Rattle.riders.specs.Runs.{no_run}
 use Rattle.riders.specs.Months.{forbidden}
 use Rattle.riders.specs.Rules.{left_by, answered_by, by_rules}
-use Rattle.riders.specs.Histories.{was_accepted, line_answered, entry_of, kept_after}
+use Rattle.riders.specs.Histories.{line_answered, entry_of, kept_after}
 use Rattle.riders.specs.Balances.{line_billed, amount_added, cents_moved}
 use Rattle.riders.specs.Waiting.{none_pending}
-use Rattle.steam_rules.proofs.Waiting.{enters, clear, settle_clear, month_turns}
+use Rattle.steam_rules.proofs.Waiting.{clear, settle_clear, month_turns}
 use Rattle.steam_rules.proofs.Found.{dates, four_factors, four_dues, none_due}
 use Rattle.steam_rules.proofs.Held.{held_billed, held_settled, held_entered, held_reconciled, held_adjusted, held_reconciling}
 use Rattle.steam_rules.proofs.Shares.{Shared, settled_shared}
-use Rattle.steam_rules.specs.Calendar.{entering_to, settles, entering}
+use Rattle.steam_rules.specs.Calendar.{entering_one, settles, entering}
 use Rattle.steam_rules.specs.declared.Mmbtu.{Mmbtu}
 use Rattle.steam_rules.specs.declared.Period.{Period}
 use Rattle.steam_rules.specs.declared.SteamBook.{SteamBook}
-use Rattle.steam_rules.specs.declared.Posted.{Posted}
-use Rattle.steam_rules.specs.Book.{mmbtu, period_of, posted, refused, four, fresh_of}
+use Rattle.steam_rules.specs.Book.{period_of, fresh_of}
 use Rattle.steam_rules.specs.Settlement.{share_of, remainder_after}
 use Rattle.steam_rules.specs.Next.{with_period, cost_posted, sales_posted, bill_line, bill_posted, settle_posted, entered, month_lost, reconciled, month_ended, adjust_posted, reconcile_posted, next_at, answer_at}
 use Rattle.steam_rules.specs.Limits.{in_limits}
@@ -52,15 +54,15 @@ record Kept (b : SteamBook) (t : Tally) : Type 0 where
 -- ---- a month's end, up to the month itself
 
 -- nothing is pending where a run has entered
-entered_pending : (n : ℕ) (b : SteamBook) → (entered n b).pending ≡ cond (enters n) no_run b.pending
+entered_pending : (run : Option ℕ) (b : SteamBook) → (entered run b).pending ≡ cond (is_some run) no_run b.pending
 unfolding entered
-entered_pending zero b = refl
-entered_pending (suc i) b = refl
+entered_pending None b = refl
+entered_pending (Some i) b = refl
 
-entered_period : (n : ℕ) (b : SteamBook) → (entered n b).period ≡ b.period
+entered_period : (run : Option ℕ) (b : SteamBook) → (entered run b).period ≡ b.period
 unfolding entered
-entered_period zero b = refl
-entered_period (suc i) b = refl
+entered_period None b = refl
+entered_period (Some i) b = refl
 
 lost_pending : (months : ℕ) (b : SteamBook) → (month_lost months b).pending ≡ b.pending
 lost_pending zero b = refl
@@ -77,7 +79,7 @@ lost_period (suc (suc left)) b = refl
 module _ (b : SteamBook) (t : Tally) (p : Posting) (k : Kept b t) where
   -- the tally takes from an answer that it was accepted, and the line
   abbrev Keeps : Kind → Type 0
-  Keeps kind = Kept (next_at kind b p) (cond (was_accepted (answer_at kind b p)) (count_at kind t p (line_answered kind (answer_at kind b p))) t)
+  Keeps kind = Kept (next_at kind b p) (count_at kind t p (line_answered kind (Ok (answer_at kind b p))))
 
   -- cost and sales change the period alone, and not its remainder
   period_keeps :
@@ -93,15 +95,15 @@ module _ (b : SteamBook) (t : Tally) (p : Posting) (k : Kept b t) where
         shares = k.shares;
       }
 
-  cost_keeps : Keeps cost
+  cost_keeps : Keeps Cost
   unfolding next_at answer_at count_at cost_posted cost_counted
   cost_keeps = period_keeps (λ q. q.cost.0 +ℤ p.first) (λ q. q.sales.0)
 
-  sales_keeps : Keeps sales
+  sales_keeps : Keeps Sales
   unfolding next_at answer_at count_at sales_posted sales_counted
   sales_keeps = period_keeps (λ q. q.cost.0) (λ q. q.sales.0 +ℤ p.first)
 
-  bill_keeps : not (in_limits b) ≡ false → Keeps bill
+  bill_keeps : not (in_limits b) ≡ false → Keeps Bill
   unfolding next_at answer_at count_at bill_posted line_counted
   bill_keeps limits =
       record {
@@ -111,7 +113,7 @@ module _ (b : SteamBook) (t : Tally) (p : Posting) (k : Kept b t) where
         shares = k.shares;
       }
 
-  settle_keeps : forbidden settle (settles b.month) b.settled ≡ false → Keeps settle
+  settle_keeps : forbidden Settle (settles b.month) b.settled ≡ false → Keeps Settle
   unfolding next_at answer_at count_at settle_posted settle_counted waiting.clear
   settle_keeps allowed =
       let nothing = k.pending (settle_clear b.month b.settled allowed) in
@@ -125,25 +127,25 @@ module _ (b : SteamBook) (t : Tally) (p : Posting) (k : Kept b t) where
         shares = settled_shared t k.shares;
       }
 
-  month_keeps : not (in_limits b) ≡ false → forbidden month_end (settles b.month) b.settled ≡ false → Keeps month_end
+  month_keeps : not (in_limits b) ≡ false → forbidden MonthEnd (settles b.month) b.settled ≡ false → Keeps MonthEnd
   unfolding next_at answer_at count_at month_ended reconciled held_by
   month_keeps limits allowed =
-      let n = entering b.month in
-      let e = entered n b in
+      let run = entering b.month in
+      let e = entered run b in
       let months = e.reconciliation.months in
       record {
-        period = lost_period months e ∙ entered_period n b ∙ k.period;
+        period = lost_period months e ∙ entered_period run b ∙ k.period;
         balances =
             cents_moved t.billed (held_by b) k.balances
-            (held_reconciled e ∙ held_entered b n (four_dues b limits) (entering_to b.month));
+            (held_reconciled e ∙ held_entered b run (four_dues b limits) (entering_one b.month));
         pending =
             λ c.
-            (λ i. ((lost_pending months e ∙ entered_pending n b) i).due.0)
-            ∙ none_pending _ (enters n) (clear_in b) b.pending (month_turns b.month b.settled (dates b limits) allowed) k.pending c;
+            (λ i. ((lost_pending months e ∙ entered_pending run b) i).due.0)
+            ∙ none_pending _ (is_some run) (clear_in b) b.pending (month_turns b.month b.settled (dates b limits) allowed) k.pending c;
         shares = k.shares;
       }
 
-  adjust_keeps : Keeps adjust
+  adjust_keeps : Keeps Adjust
   unfolding next_at answer_at count_at adjust_posted adjustment_counted
   adjust_keeps =
       record {
@@ -155,7 +157,7 @@ module _ (b : SteamBook) (t : Tally) (p : Posting) (k : Kept b t) where
         shares = k.shares;
       }
 
-  reconcile_keeps : not (in_limits b) ≡ false → still_runs reconcile b ≡ false → Keeps reconcile
+  reconcile_keeps : not (in_limits b) ≡ false → still_runs Reconcile b ≡ false → Keeps Reconcile
   unfolding next_at answer_at count_at reconcile_posted
   reconcile_keeps limits free =
       record {
@@ -168,23 +170,23 @@ module _ (b : SteamBook) (t : Tally) (p : Posting) (k : Kept b t) where
   kind_keeps :
       (kind : Kind) → is_none (table_of Steam kind) ≡ false → not (in_limits b) ≡ false → forbidden kind (settles b.month) b.settled ≡ false → still_runs kind b ≡ false →
       Keeps kind
-  kind_keeps cost known limits allowed free = cost_keeps
-  kind_keeps sales known limits allowed free = sales_keeps
-  kind_keeps bill known limits allowed free = bill_keeps limits
-  kind_keeps settle known limits allowed free = settle_keeps allowed
-  kind_keeps month_end known limits allowed free = month_keeps limits allowed
-  kind_keeps adjust known limits allowed free = adjust_keeps
-  kind_keeps reconcile known limits allowed free = reconcile_keeps limits free
-  kind_keeps unknown known limits allowed free = absurd (true≢false known)
+  kind_keeps Cost known limits allowed free = cost_keeps
+  kind_keeps Sales known limits allowed free = sales_keeps
+  kind_keeps Bill known limits allowed free = bill_keeps limits
+  kind_keeps Settle known limits allowed free = settle_keeps allowed
+  kind_keeps MonthEnd known limits allowed free = month_keeps limits allowed
+  kind_keeps Adjust known limits allowed free = adjust_keeps
+  kind_keeps Reconcile known limits allowed free = reconcile_keeps limits free
+  kind_keeps Unknown known limits allowed free = absurd (true≢false known)
 
 -- ---- a posting, accepted or refused
 
 posting_keeps : (b : SteamBook) (t : Tally) (p : Posting) → Kept b t → Kept (left_by rules b p) (count_of t (entry_of p (answered_by rules b p)))
 unfolding count_of unknown_kind
 posting_keeps b t p k =
-    by_rules rules (λ (next : SteamBook) (answer : Answer). Kept next (count_of t (entry_of p answer))) b p tt
+    by_rules rules (λ (next : SteamBook) (answer : Result Answer Refusal). Kept next (count_of t (entry_of p answer))) b p
     (λ none. kind_keeps b t p k (kind_of p.kind) none.0 none.1.1.0 none.1.1.1.1.0 none.1.1.1.1.1.0)
-    (λ n refused. simp refused k)
+    (λ refusal. k)
 
 -- ---- a list of postings to an opened book
 
@@ -192,16 +194,16 @@ fresh_kept : (quarters : List Mmbtu) → Kept (fresh_of quarters) fresh_tally
 unfolding held_by
 fresh_kept quarters = record { period = refl; balances = refl; pending = λ c. refl; shares = sharing.none_shared 5000 (pos 80) }
 
-opened_kept : (quarters : List Mmbtu) → (opened_of quarters).answer ≡ Done → Kept (opened_of quarters).book fresh_tally
+opened_kept : (quarters : List Mmbtu) (fresh : SteamBook) → opened_of quarters ≡ Ok fresh → Kept fresh fresh_tally
 unfolding opened_of
-opened_kept quarters =
-    by_table_lem (λ (r : Posted). r.answer ≡ Done → Kept r.book fresh_tally) _ (posted Done (fresh_of quarters)) (refused (fresh_of (four (mmbtu (pos 0))))) tt
-    (λ none done. fresh_kept quarters)
-    (λ n refuses done. absurd (true≢false (sym (ap was_accepted done) ∙ refuses)))
+opened_kept quarters fresh =
+    by_table_lem (λ (opened : Result SteamBook Refusal). opened ≡ Ok fresh → Kept fresh fresh_tally) _ (Ok (fresh_of quarters)) Err
+    (λ none opened. let same : fresh_of quarters ≡ fresh = cc in subst (λ (b : SteamBook). Kept b fresh_tally) same (fresh_kept quarters))
+    (λ refusal opened. cc)
 
 balances : (b : SteamBook) (t : Tally) → Kept b t → Balances b t
 balances b t k = record { cents = k.balances; shares = sharing.shared_near 5000 (pos 80) k.shares }
 
 pub no_cent_lost : NoCentLost
 unfolding NoCentLost
-no_cent_lost quarters done postings = balances _ _ (kept_after rules count_of Kept posting_keeps _ _ postings (opened_kept quarters done))
+no_cent_lost quarters fresh opened postings = balances _ _ (kept_after rules count_of Kept posting_keeps _ _ postings (opened_kept quarters fresh opened))

@@ -8,7 +8,7 @@ use lib.ListN.{length}
 use borrow.Author.Tests.{not-false}
 use Rattle.ints.specs.Flags.{both}
 use Rattle.ints.specs.Machine.{eq_z, eq_z_true}
-use Rattle.postings.specs.Kinds.{reconcile}
+use Rattle.postings.specs.declared.kinds.Kind.TheVariants.{Reconcile}
 use Rattle.riders.specs.Months.{month_in_limits}
 use Rattle.riders.specs.Runs.{run_in_limits}
 use Rattle.amounts.specs.Amounts.{cents_in_limits}
@@ -43,8 +43,8 @@ module _ (b : SteamBook) (limits : not (in_limits b) ≡ false) where
   reconciliation = (both (dues_in_limits b.dues) _ (both (factors_in_limits b.factors) _ (both (run_in_limits b.pending) _ runs).1).1).1
 
   -- where none runs, a reconciliation may begin
-  pub none_due : still_runs reconcile b ≡ false → b.reconciliation.run.due.0 ≡ pos 0
-  unfolding still_runs reconciliation_in_limits
+  pub none_due : still_runs Reconcile b ≡ false → b.reconciliation.run.due.0 ≡ pos 0
+  unfolding reconciliation_in_limits
   none_due free =
       let r = b.reconciliation in
       let none : eqb r.months 0 ≡ true = not-false _ free in

@@ -3,7 +3,8 @@
 -- Assumes nothing.
 use mathlib.Core.Path.{◌≡◌, refl, sym, ap, ◌∙◌}
 use mathlib.Core.List.{List, [], ◌∷◌}
-use Prim.Native.Nat.{ℕ, zero, suc, ◌+◌, ◌<◌, ◌≤◌}
+use Prim.Native.Nat.{ℕ, zero, suc, ◌+◌, ◌<◌}
+use Rattle.std.specs.Prelude.{Option, Some, None, IfSome}
 use native.Mathlib.Omega.{arith}
 use lib.Dec.{T}
 use lib.IntN.{ℤ, pos, neg_ℤ, ◌+ℤ◌, ◌-ℤ◌}
@@ -71,10 +72,10 @@ module _ (b : SteamBook) where
       eq_by _ _ (neg_ℤ (pos 1)) _ _
       (solve_cents 1 (λ a q ds r x. a :+ x :+ ds :+ r :- (a :+ q :+ ds :+ r :+ x) := neg (# 1) :* (q :- # 0)) tt (share_of b.period))
 
-  pub held_entered : (n : ℕ) → length b.dues ≡ 4 → n ≤ 4 → held_by (entered n b) ≡ held_by b
+  pub held_entered : (run : Option ℕ) → length b.dues ≡ 4 → IfSome run (λ (place : ℕ). place < 4) → held_by (entered run b) ≡ held_by b
   unfolding held_by entered
-  held_entered zero d to = refl
-  held_entered (suc i) d to =
+  held_entered None d of_four = refl
+  held_entered (Some i) d of_four =
       eq_by _ _ (pos 1) _ _
       (solve_cents 2 (λ a q ds r old new. a :+ old :+ # 0 :+ new :+ r :- (a :+ q :+ ds :+ r) := # 1 :* (new :+ old :- (ds :+ q))) tt
       (get_or b.dues i (cents (pos 0))).0 (sum_cents (set b.dues i b.pending.due)))

@@ -3,31 +3,32 @@ use mathlib.Core.Path.{◌≡◌, refl}
 use mathlib.Core.Bool.{true}
 use mathlib.Core.List.{List}
 use lib.IntN.{pos}
+use Rattle.std.specs.Prelude.{Result, Ok, Err}
+use Rattle.std.specs.Result.{result_unwrap_or}
 use borrow.Author.Tests.{not-false}
 use Rattle.ints.specs.Range.{in_range}
+use Rattle.refusals.specs.declared.Refusal.{Refusal}
 use Rattle.refusals.proofs.TableLaws.{by_table_lem}
 use Rattle.amounts.specs.Amounts.{cents_in_limits, points_in_limits}
 use Rattle.postings.specs.declared.Posting.{Posting}
 use Rattle.postings.specs.declared.Answer.{Answer}
-use Rattle.postings.specs.declared.Answer.TheVariants.{Done}
 use Rattle.riders.specs.Rules.{left_by, by_rules}
 use Rattle.riders.specs.Histories.{Entry, kept_after}
 use Rattle.riders.specs.Months.{month_in_limits}
 use Rattle.riders.specs.Runs.{run_in_limits}
 use Rattle.steam_rules.specs.declared.Mmbtu.{Mmbtu}
 use Rattle.steam_rules.specs.declared.SteamBook.{SteamBook}
-use Rattle.steam_rules.specs.declared.Posted.{Posted}
-use Rattle.steam_rules.specs.Book.{mmbtu, four, posted, refused, fresh_of}
+use Rattle.steam_rules.specs.Book.{mmbtu, four, fresh_of}
 use Rattle.steam_rules.specs.Calendar.{settles}
 use Rattle.steam_rules.specs.Limits.{remainder_in_limits, mmbtu_in_limits, period_in_limits, quarters_in_limits, factors_in_limits, dues_in_limits, reconciliation_in_limits, runs_in_limits, in_limits}
-use Rattle.steam_rules.specs.Opening.{opened_of}
+use Rattle.steam_rules.specs.Opening.{opened_of, handed_back}
 use Rattle.steam_rules.specs.Refusals.{rules}
 use Rattle.steam_rules.specs.Claim.{NeverOutOfLimits}
 
 left_within : (b : SteamBook) (p : Posting) → in_limits b ≡ true → in_limits (left_by rules b p) ≡ true
 left_within b p h =
-    by_rules rules (λ (next : SteamBook) (answer : Answer). in_limits next ≡ true) b p tt
-    (λ none. not-false _ none.1.1.1.1.1.1.1.1.0) (λ n refused. h)
+    by_rules rules (λ (next : SteamBook) (answer : Result Answer Refusal). in_limits next ≡ true) b p
+    (λ none. not-false _ none.1.1.1.1.1.1.1.1.0) (λ refusal. h)
 
 fresh_within : (quarters : List Mmbtu) → quarters_in_limits quarters ≡ true → in_limits (fresh_of quarters) ≡ true
 unfolding in_limits period_in_limits mmbtu_in_limits remainder_in_limits runs_in_limits factors_in_limits dues_in_limits reconciliation_in_limits run_in_limits cents_in_limits points_in_limits in_range month_in_limits settles
@@ -37,11 +38,12 @@ no_sales : quarters_in_limits (four (mmbtu (pos 0))) ≡ true
 unfolding quarters_in_limits mmbtu_in_limits in_range
 no_sales = refl
 
-opened_within : (quarters : List Mmbtu) → in_limits (opened_of quarters).book ≡ true
+opened_within : (quarters : List Mmbtu) → in_limits (handed_back quarters) ≡ true
 unfolding opened_of
 opened_within quarters =
-    by_table_lem (λ (r : Posted). in_limits r.book ≡ true) _ (posted Done (fresh_of quarters)) (refused (fresh_of (four (mmbtu (pos 0))))) tt
-    (λ none. fresh_within quarters (not-false _ none.0)) (λ n refuses. fresh_within _ no_sales)
+    let zeros = fresh_of (four (mmbtu (pos 0))) in
+    by_table_lem (λ (opened : Result SteamBook Refusal). in_limits (result_unwrap_or opened zeros) ≡ true) _ (Ok (fresh_of quarters)) Err
+    (λ none. fresh_within quarters (not-false _ none.0)) (λ refusal. fresh_within _ no_sales)
 
 pub never_out_of_limits : NeverOutOfLimits
 unfolding NeverOutOfLimits

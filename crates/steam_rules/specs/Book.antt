@@ -1,8 +1,6 @@
 -- The steam book (01, Steam book): amounts put together, and the fresh book.
 use Rattle.std.specs.Prelude.{◌≡◌, false, List, [], ◌∷◌, ℕ, ℤ, pos}
 use Rattle.amounts.specs.Amounts.{cents, points}
-use Rattle.postings.specs.declared.Answer.{Answer}
-use Rattle.postings.specs.declared.Answer.TheVariants.{Refused}
 use Rattle.riders.specs.Runs.{no_run}
 use Rattle.riders.specs.declared.Run.{Run}
 use Rattle.steam_rules.specs.declared.Mmbtu.{Mmbtu}
@@ -10,7 +8,6 @@ use Rattle.steam_rules.specs.declared.Remainder.{Remainder}
 use Rattle.steam_rules.specs.declared.Period.{Period}
 use Rattle.steam_rules.specs.declared.Reconciliation.{Reconciliation}
 use Rattle.steam_rules.specs.declared.SteamBook.{SteamBook}
-use Rattle.steam_rules.specs.declared.Posted.{Posted}
 
 abbrev pub mmbtu : ℤ → Mmbtu
 mmbtu z = record { 0 = z }
@@ -27,13 +24,6 @@ reconciliation_of run months = record { run = run; months = months }
 
 abbrev pub no_reconciliation : Reconciliation
 no_reconciliation = reconciliation_of no_run 0
-
--- an answer and the book after it
-abbrev pub posted : Answer → SteamBook → Posted
-posted answer book = record { answer = answer; book = book }
-
-abbrev pub refused : SteamBook → ℕ → Posted
-refused book n = posted (Refused n) book
 
 -- ---- fresh: month January, all else zero
 

@@ -1,15 +1,14 @@
 -- What holds of every history of a steam book, over every list of postings, refused and unknown ones included: no cent is lost (01, The
 -- tally; proved in proofs/Conservation.antt), and the book stays within its limits (proved in proofs/Within.antt).
-use Rattle.std.specs.Prelude.{◌≡◌, true, List, [], ◌∷◌, ℤ, pos, ◌+ℤ◌, ◌-ℤ◌, ◌*ℤ◌}
+use Rattle.std.specs.Prelude.{◌≡◌, true, List, [], ◌∷◌, ℤ, pos, ◌+ℤ◌, ◌-ℤ◌, ◌*ℤ◌, Ok}
 use Rattle.ints.specs.Range.{Within}
 use Rattle.amounts.specs.declared.Cents.{Cents}
 use Rattle.postings.specs.declared.Posting.{Posting}
-use Rattle.postings.specs.declared.Answer.TheVariants.{Done}
 use Rattle.riders.specs.Histories.{book_after, entries_of, tally_after}
 use Rattle.steam_rules.specs.declared.Mmbtu.{Mmbtu}
 use Rattle.steam_rules.specs.declared.SteamBook.{SteamBook}
 use Rattle.steam_rules.specs.Limits.{in_limits}
-use Rattle.steam_rules.specs.Opening.{opened_of}
+use Rattle.steam_rules.specs.Opening.{opened_of, handed_back}
 use Rattle.steam_rules.specs.Refusals.{rules}
 use Rattle.steam_rules.specs.Tally.{Tally, fresh_tally, count_of}
 
@@ -29,10 +28,9 @@ pub record Balances (b : SteamBook) (t : Tally) : Type 0 where
 -- after every list of postings to the fresh book of an accepted opening
 unfoldable pub NoCentLost : Type 0
 NoCentLost =
-    (quarters : List Mmbtu) → (opened_of quarters).answer ≡ Done → (postings : List Posting) →
-    let fresh = (opened_of quarters).book in
+    (quarters : List Mmbtu) (fresh : SteamBook) → opened_of quarters ≡ Ok fresh → (postings : List Posting) →
     Balances (book_after rules fresh postings) (tally_after count_of fresh_tally (entries_of rules fresh postings))
 
 -- a book that was opened is never out of its limits, so that row 6 never refuses a posting to it
 unfoldable pub NeverOutOfLimits : Type 0
-NeverOutOfLimits = (quarters : List Mmbtu) (postings : List Posting) → in_limits (book_after rules (opened_of quarters).book postings) ≡ true
+NeverOutOfLimits = (quarters : List Mmbtu) (postings : List Posting) → in_limits (book_after rules (handed_back quarters) postings) ≡ true

@@ -1,8 +1,10 @@
 -- Arrays of four: a test of each element, and what it tells of each. Assumes nothing.
 use Rattle.std.specs.Prelude.{◌≡◌, refl, Bool, true, false, ◌&&◌, List, [], ◌∷◌, ℕ, zero, suc, ◌<◌, eqb, length, get_or}
-use Rattle.std.proofs.Common.{sym, ap, ◌∙◌, arith, eqb-true}
+use Rattle.std.proofs.Common.{sym, ap, ◌∙◌, subst, arith, eqb-true}
+use Rattle.std.specs.List.{list_all}
+use Rattle.std.proofs.Props.{props}
 use Rattle.ints.specs.Flags.{both}
-use Rattle.steam_rules.specs.Limits.{all, all_four}
+use Rattle.steam_rules.specs.Limits.{all_four}
 
 and_true : (t : Bool) → t ≡ t && true
 and_true true = refl
@@ -34,6 +36,19 @@ module _ {A : Type 0} where
     pub count : length xs ≡ 4
     pub each : Each P xs
 
+  -- a fact with at most one proof is so of the four with at most one
+  each_prop : (P : A → Type 0) → ((x : A) → IsProp (P x)) → (xs : List A) → IsProp (Each P xs)
+  each_prop P prop [] = hlevel
+  each_prop P prop (x ∷ xs) =
+      let one = prop x in
+      let rest = each_prop P prop xs in
+      hlevel (one, rest)
+
+  pub four_prop : (P : A → Type 0) → ((x : A) → IsProp (P x)) → (xs : List A) → IsProp (Four P xs)
+  four_prop P prop xs =
+      let each = each_prop P prop xs in
+      hlevel (props, each)
+
   each_at : (P : A → Type 0) (d : A) (xs : List A) → Each P xs → (i : ℕ) → i < length xs → P (get_or xs i d)
   each_at P d [] es i h = absurd (omega arith)
   each_at P d (x ∷ xs) es zero h = es.0
@@ -46,18 +61,21 @@ module _ {A : Type 0} where
   pub one_by_one : {P : A → Type 0} (d : A) {xs : List A} → Four P xs → P (get_or xs 0 d) × P (get_or xs 1 d) × P (get_or xs 2 d) × P (get_or xs 3 d)
   one_by_one d fs = (at d fs 0 (omega arith), at d fs 1 (omega arith), at d fs 2 (omega arith), at d fs 3 (omega arith))
 
-  each_tested : (test : A → Bool) (P : A → Type 0) → ((x : A) → test x ≡ true → P x) → (xs : List A) → all test xs ≡ true → Each P xs
+  pub four_of : {P : A → Type 0} (d : A) (xs : List A) → length xs ≡ 4 → P (get_or xs 0 d) × P (get_or xs 1 d) × P (get_or xs 2 d) × P (get_or xs 3 d) → Four P xs
+  four_of {P} d xs e h = record { count = e; each = subst (Each P) (sym (as_four d xs e)) (h.0, (h.1, (h.2, (h.3, tt)))) }
+
+  each_tested : (test : A → Bool) (P : A → Type 0) → ((x : A) → test x ≡ true → P x) → (xs : List A) → list_all test xs ≡ true → Each P xs
   each_tested test P tells [] e = tt
   each_tested test P tells (x ∷ xs) e =
-      let h = both (test x) (all test xs) e in
+      let h = both (test x) (list_all test xs) e in
       (tells x h.0, each_tested test P tells xs h.1)
 
   pub four_tested : (test : A → Bool) (P : A → Type 0) → ((x : A) → test x ≡ true → P x) → (xs : List A) → all_four test xs ≡ true → Four P xs
   four_tested test P tells xs e =
-      let h = both (eqb (length xs) 4) (all test xs) e in
+      let h = both (eqb (length xs) 4) (list_all test xs) e in
       record { count = eqb-true (length xs) 4 h.0; each = each_tested test P tells xs h.1 }
 
-  each_yes : (test : A → Bool) (P : A → Type 0) → ((x : A) → P x → test x ≡ true) → (xs : List A) → Each P xs → all test xs ≡ true
+  each_yes : (test : A → Bool) (P : A → Type 0) → ((x : A) → P x → test x ≡ true) → (xs : List A) → Each P xs → list_all test xs ≡ true
   each_yes test P tests [] es = refl
   each_yes test P tests (x ∷ xs) es = simp (tests x es.0, each_yes test P tests xs es.1)
 

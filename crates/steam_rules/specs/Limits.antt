@@ -1,6 +1,7 @@
 -- What a steam book may store (01, Posting records, the last line; Refusals, 6): one definition for the book that a posting finds and for
 -- the one that it would leave.
-use Rattle.std.specs.Prelude.{Bool, true, not, ◌&&◌, ◌||◌, List, [], ◌∷◌, leb, eqb, pos, neg_ℤ, length}
+use Rattle.std.specs.Prelude.{Bool, not, ◌&&◌, ◌||◌, List, leb, eqb, pos, neg_ℤ, length}
+use Rattle.std.specs.List.{list_all}
 use Rattle.ints.specs.Machine.{eq_z}
 use Rattle.ints.specs.Range.{in_range}
 use Rattle.amounts.specs.Amounts.{cents_in_limits, points_in_limits}
@@ -28,13 +29,9 @@ period_in_limits p = cents_in_limits p.cost && (mmbtu_in_limits p.sales && remai
 
 -- ---- arrays of four
 
-abbrev pub all : {A : Type 0} → (A → Bool) → List A → Bool
-all test [] = true
-all test (x ∷ xs) = test x && all test xs
-
 -- four elements, which an array of four always has, each of them within its limits
 abbrev pub all_four : {A : Type 0} → (A → Bool) → List A → Bool
-all_four test xs = eqb (length xs) 4 && all test xs
+all_four test xs = eqb (length xs) 4 && list_all test xs
 
 unfoldable pub quarters_in_limits : List Mmbtu → Bool
 quarters_in_limits quarters = all_four mmbtu_in_limits quarters

@@ -1,10 +1,12 @@
 -- What an accepted posting makes of the book, and what it is answered, by kind (01, Steam book): on whole numbers without bounds. Which
 -- postings are refused is said in Refusals.
-use Rattle.std.specs.Prelude.{true, false, List, [], ◌∷◌, ◌++◌, ℕ, zero, suc, ℤ, pos, nat_abs, ◌+ℤ◌, ◌-ℤ◌, get_or, set}
+use Rattle.std.specs.Prelude.{true, false, List, [], ◌∷◌, ◌++◌, ℕ, zero, suc, ℤ, pos, nat_abs, ◌+ℤ◌, ◌-ℤ◌, get_or, set, Option, Some, None}
 use Rattle.amounts.specs.Amounts.{cents, points}
 use Rattle.amounts.specs.declared.Cents.{Cents}
 use Rattle.amounts.specs.declared.Points.{Points}
-use Rattle.postings.specs.Kinds.{Kind, cost, sales, bill, settle, month_end, adjust, reconcile, unknown, kind_of}
+use Rattle.postings.specs.Kinds.{kind_of}
+use Rattle.postings.specs.declared.kinds.Kind.{Kind}
+use Rattle.postings.specs.declared.kinds.Kind.TheVariants.{Cost, Sales, Bill, Settle, MonthEnd, Adjust, Reconcile, Unknown}
 use Rattle.postings.specs.declared.Posting.{Posting}
 use Rattle.postings.specs.declared.Answer.{Answer}
 use Rattle.postings.specs.declared.Answer.TheVariants.{Line, Filed, Done}
@@ -148,10 +150,10 @@ settle_posted b p =
 
 -- ---- month end
 
--- run 1, 2, 3 or 4 adds its d to A and becomes (q, Q); Q and q become 0. 0 is no run
-unfoldable pub entered : ℕ → SteamBook → SteamBook
-entered zero b = b
-entered (suc i) b =
+-- the run that enters adds its d to A and becomes (q, Q); Q and q become 0
+unfoldable pub entered : Option ℕ → SteamBook → SteamBook
+entered None b = b
+entered (Some i) b =
     entered_with b (cents (b.carried.0 +ℤ (get_or b.dues i (cents (pos 0))).0)) (set b.factors i b.pending.factor) (set b.dues i b.pending.due)
 
 -- the reconciliation run, if one runs, loses a month; at none left its d joins A, and d and factor become 0
@@ -180,14 +182,14 @@ reconcile_posted b p =
 -- ---- the next book
 
 unfoldable pub next_at : Kind → SteamBook → Posting → SteamBook
-next_at cost b p = cost_posted b p
-next_at sales b p = sales_posted b p
-next_at bill b p = bill_posted b p
-next_at settle b p = settle_posted b p
-next_at month_end b p = month_ended b
-next_at adjust b p = adjust_posted b p
-next_at reconcile b p = reconcile_posted b p
-next_at unknown b p = b
+next_at Cost b p = cost_posted b p
+next_at Sales b p = sales_posted b p
+next_at Bill b p = bill_posted b p
+next_at Settle b p = settle_posted b p
+next_at MonthEnd b p = month_ended b
+next_at Adjust b p = adjust_posted b p
+next_at Reconcile b p = reconcile_posted b p
+next_at Unknown b p = b
 
 abbrev pub next_of : SteamBook → Posting → SteamBook
 next_of b p = next_at (kind_of p.kind) b p
@@ -195,14 +197,14 @@ next_of b p = next_at (kind_of p.kind) b p
 -- ---- the answer
 
 unfoldable pub answer_at : Kind → SteamBook → Posting → Answer
-answer_at cost b p = Done
-answer_at sales b p = Done
-answer_at bill b p = Line (cents (bill_line p.first b))
-answer_at settle b p = Filed (points (filed_factor b p))
-answer_at month_end b p = Done
-answer_at adjust b p = Done
-answer_at reconcile b p = Done
-answer_at unknown b p = Done
+answer_at Cost b p = Done
+answer_at Sales b p = Done
+answer_at Bill b p = Line (cents (bill_line p.first b))
+answer_at Settle b p = Filed (points (filed_factor b p))
+answer_at MonthEnd b p = Done
+answer_at Adjust b p = Done
+answer_at Reconcile b p = Done
+answer_at Unknown b p = Done
 
 abbrev pub answer_of : SteamBook → Posting → Answer
 answer_of b p = answer_at (kind_of p.kind) b p

@@ -20,6 +20,10 @@ AdjustmentWithin b = Within 100000000 b
 abbrev pub quarter_at : List Mmbtu → ℕ → Mmbtu
 quarter_at quarters i = get_or quarters i (mmbtu (pos 0))
 
+-- each of the four, one by one
+abbrev pub QuartersWithin : List Mmbtu → Type 0
+QuartersWithin quarters = MmbtuWithin (quarter_at quarters 0) × MmbtuWithin (quarter_at quarters 1) × MmbtuWithin (quarter_at quarters 2) × MmbtuWithin (quarter_at quarters 3)
+
 module _ (quarters : List Mmbtu) (count : length quarters ≡ 4) where
   pub sold_three : (quarter_at quarters 1).0 +ℤ ((quarter_at quarters 2).0 +ℤ (quarter_at quarters 3).0) ≡ sold_in (three_newest quarters)
   sold_three =

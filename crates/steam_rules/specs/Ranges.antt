@@ -1,5 +1,6 @@
 -- What the limits tell of a book: a range for every amount that it stores, in records nested like the book. Assumes nothing.
 use Rattle.std.specs.Prelude.{◌≡◌, true, List, leb, pos, neg_ℤ}
+use Rattle.std.proofs.Props.{props}
 use Rattle.ints.specs.Flags.{both}
 use Rattle.ints.specs.Range.{Between, Within, in_range_true, in_range_yes}
 use Rattle.amounts.specs.Amounts.{cents_in_limits, points_in_limits, cents_within, points_within}
@@ -14,7 +15,7 @@ use Rattle.steam_rules.specs.declared.Reconciliation.{Reconciliation}
 use Rattle.steam_rules.specs.declared.SteamBook.{SteamBook}
 use Rattle.steam_rules.specs.Calendar.{settles}
 use Rattle.steam_rules.specs.Limits.{mmbtu_in_limits, remainder_in_limits, period_in_limits, quarters_in_limits, factors_in_limits, dues_in_limits, reconciliation_in_limits, runs_in_limits, in_limits}
-use Rattle.steam_rules.specs.Fours.{Four, four_tested, four_yes}
+use Rattle.steam_rules.specs.Fours.{Four, four_prop, four_tested, four_yes}
 
 abbrev pub MmbtuWithin : Mmbtu → Type 0
 MmbtuWithin sales = Between (pos 0) (pos 100000000) sales.0
@@ -106,3 +107,11 @@ book_within b e =
       carried = cents_within b.carried c.0;
       runs = runs_within b c.1;
     }
+
+-- a book is within its limits in one way alone
+pub book_within_prop : (b : SteamBook) → IsProp (BookWithin b)
+book_within_prop b =
+    let quarters = four_prop MmbtuWithin (λ sales. hlevel props) b.quarters in
+    let factors = four_prop PointsWithin (λ factor. hlevel props) b.factors in
+    let dues = four_prop CentsWithin (λ amount. hlevel props) b.dues in
+    hlevel (props, quarters, factors, dues)

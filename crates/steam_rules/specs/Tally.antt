@@ -2,7 +2,9 @@
 -- K, B and rem are its own, and stand in a period of its own; V and R follow from them by the book's formulas. The steam book bears no
 -- interest.
 use Rattle.std.specs.Prelude.{cond, ℤ, pos, ◌+ℤ◌}
-use Rattle.postings.specs.Kinds.{Kind, cost, sales, bill, settle, month_end, adjust, reconcile, unknown, kind_of}
+use Rattle.postings.specs.Kinds.{kind_of}
+use Rattle.postings.specs.declared.kinds.Kind.{Kind}
+use Rattle.postings.specs.declared.kinds.Kind.TheVariants.{Cost, Sales, Bill, Settle, MonthEnd, Adjust, Reconcile, Unknown}
 use Rattle.postings.specs.declared.Posting.{Posting}
 use Rattle.riders.specs.Histories.{Entry}
 use Rattle.steam_rules.specs.declared.Period.{Period}
@@ -58,14 +60,14 @@ unfoldable pub adjustment_counted : ℤ → Tally → Tally
 adjustment_counted n t = record { period = t.period; variances = t.variances; billed = t.billed; shares = t.shares; adjustments = t.adjustments +ℤ n }
 
 unfoldable pub count_at : Kind → Tally → Posting → ℤ → Tally
-count_at cost t p line = cost_counted t p
-count_at sales t p line = sales_counted t p
-count_at bill t p line = line_counted line t
-count_at settle t p line = settle_counted t
-count_at month_end t p line = t
-count_at adjust t p line = adjustment_counted p.first t
-count_at reconcile t p line = t
-count_at unknown t p line = t
+count_at Cost t p line = cost_counted t p
+count_at Sales t p line = sales_counted t p
+count_at Bill t p line = line_counted line t
+count_at Settle t p line = settle_counted t
+count_at MonthEnd t p line = t
+count_at Adjust t p line = adjustment_counted p.first t
+count_at Reconcile t p line = t
+count_at Unknown t p line = t
 
 -- a refused posting changes nothing
 unfoldable pub count_of : Tally → Entry → Tally

@@ -5,25 +5,25 @@
 ghost use Rattle.std.specs.Prelude.{◌≡◌};
 ghost use Rattle.steam_rules.specs.Book.{no_period, no_reconciliation, fresh_of};
 ghost use Rattle.steam_rules.specs.Limits.{mmbtu_in_limits, remainder_in_limits, period_in_limits, quarters_in_limits};
-ghost use Rattle.steam_rules.specs.Opening.{opened_of};
+ghost use Rattle.steam_rules.specs.Opening.{opened_of, handed_back};
 
-use amounts::{Cents, Points};
-use postings::Answer;
+use amounts::{Cents, Points, Stored};
+use refusals::Refusal;
 use riders::Run;
 
 // Sales of steam in million BTU.
 #[repr(C)]
-#[derive(Clone, Copy)]
+#[derive(Clone, Copy, Debug, PartialEq, Eq)]
 pub struct Mmbtu(pub i64);
 
 // What rounding left of the customers' shares, in ten-thousandths of a cent: document 01's rem.
 #[repr(C)]
-#[derive(Clone, Copy)]
+#[derive(Clone, Copy, Debug, PartialEq, Eq)]
 pub struct Remainder(pub i64);
 
 // The open quarter: document 01's K and B, and the remainder of the quarters before.
 #[repr(C)]
-#[derive(Clone, Copy)]
+#[derive(Clone, Copy, Debug, PartialEq, Eq)]
 pub struct Period {
     pub cost: Cents,
     pub sales: Mmbtu,
@@ -32,7 +32,7 @@ pub struct Period {
 
 // The reconciliation run and the months that it has left, none where none runs.
 #[repr(C)]
-#[derive(Clone, Copy)]
+#[derive(Clone, Copy, Debug, PartialEq, Eq)]
 pub struct Reconciliation {
     pub run: Run,
     pub months: u8,
@@ -40,7 +40,7 @@ pub struct Reconciliation {
 
 // Past quarters stand oldest first; factors and dues are those of runs 1 to 4; carried is document 01's account A.
 #[repr(C)]
-#[derive(Clone, Copy)]
+#[derive(Clone, Copy, Debug, PartialEq, Eq)]
 pub struct SteamBook {
     pub month: u8,
     pub settled: bool,
@@ -51,13 +51,6 @@ pub struct SteamBook {
     pub factors: [Points; 4],
     pub dues: [Cents; 4],
     pub reconciliation: Reconciliation,
-}
-
-// An answer and the book after it.
-#[derive(Clone, Copy)]
-pub struct Posted {
-    pub answer: Answer,
-    pub book: SteamBook,
 }
 
 impl Mmbtu {
@@ -127,20 +120,21 @@ impl SteamBook {
     // The most months that a reconciliation has left.
     pub const MOST_MONTHS: u8 = 24;
 
-    // The fresh book after these four quarters, oldest first. A quarter out of range is refusal 7, with the book after four zeros.
-    pub fn open(quarters: [Mmbtu; 4]) -> Posted
+    // The fresh book after these four quarters, oldest first. A quarter out of range is refused.
+    pub fn open(quarters: [Mmbtu; 4]) -> Result<SteamBook, Refusal>
         ensures { result ≡ opened_of quarters }
     {
-        if quarters_in_limits(quarters) {
-            return Posted {
-                answer: Answer::Done,
-                book: SteamBook::fresh(quarters),
-            };
+        if !quarters_in_limits(quarters) {
+            return Err(Refusal::OutOfRange);
         }
-        Posted {
-            answer: Answer::Refused(7),
-            book: SteamBook::fresh([Mmbtu(0); 4]),
-        }
+        Ok(SteamBook::fresh(quarters))
+    }
+
+    // The book that an opening hands back: where it is refused, the fresh one after four zeros.
+    pub fn handed_back(quarters: [Mmbtu; 4]) -> SteamBook
+        ensures { result ≡ handed_back quarters }
+    {
+        SteamBook::open(quarters).unwrap_or(SteamBook::fresh([Mmbtu(0); 4]))
     }
 
     fn fresh(quarters: [Mmbtu; 4]) -> SteamBook
@@ -160,7 +154,7 @@ impl SteamBook {
     }
 }
 
-// Whether a book may store each of the quarters.
+// Whether a book may store each of the quarters. All four are tested, with no branch: `iter().all` was slower.
 pub fn quarters_in_limits(quarters: [Mmbtu; 4]) -> bool
     ensures { result ≡ quarters_in_limits quarters }
 {

@@ -16,6 +16,6 @@ behind a k n xs ys h m =
 
 pub loop-count-preserved : goal.loop-count-preserved
 loop-count-preserved g c =
-    let some = c.read_some-some in
     let (fits, bytes) = c.loop-count.invariant in
-    (search rules, subst (Consumes _ _) (behind _ _ _ _ some.new.part fits some.ensures.fits) (Consumes-trans _ _ _ _ _ bytes some.ensures.bytes))
+    let read = c.in-Ok.ensures in
+    (search rules, subst (Consumes _ _) (behind _ _ _ _ c.read.new.buf fits read.bound.0) (Consumes-trans _ _ _ _ _ bytes read.bytes.0))

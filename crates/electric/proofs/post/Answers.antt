@@ -1,34 +1,53 @@
 -- `electric::post` gives what a posting gives: a row before the next book refuses, or the limits of the next book decide. Assumes nothing.
-use mathlib.Core.Path.{refl, sym, ◌∙◌}
+use Rattle.std.specs.Prelude.{◌≡◌, refl, Ok, Err}
+use Rattle.std.proofs.Common.{rules, sym, ap, ◌∙◌, subst}
+use Rattle.refusals.specs.Rows.{before, number_of}
+use Rattle.refusals.proofs.TableLaws.{table_accepts, table_refuses}
+use Rattle.postings.specs.Ranged.{Ranged}
+use Rattle.postings.specs.declared.kinds.Kind.{Kind}
 use Rattle.postings.specs.declared.Book.TheVariants.{Electric}
-use Rattle.riders.specs.Posts.{shown}
-use Rattle.electric_rules.specs.Book.{posted}
-use Rattle.electric_rules.specs.Limits.{in_limits}
-use Rattle.electric_rules.specs.Refusals.{rules}
-use Rattle.electric_rules.specs.Ranges.{book_within}
+use Rattle.riders.specs.Posts.{StoredAs, shown}
 use Rattle.riders.proofs.PostLaws as posts
+use Rattle.electric_rules.specs.Limits.{in_limits}
+use Rattle.electric_rules.specs.Refusals as electric
+use Rattle.electric_rules.specs.Ranges.{book_within}
+use Rattle.electric.specs.Stored.{effect_at, fits}
 use Rattle.electric.proofs.post.Goals as goal
 
-pub returns-then-number-ne0 : goal.returns-then-number-ne0
-returns-then-number-ne0 c =
-    let s = c.args in
-    c.refuse.ensures ∙ posts.refused_before posted rules s.book s.posting in_limits refl tt c.refusal_before-number.ensures c.if-number-ne0.true
+pub returns-in_err-kind : goal.returns-in_err-kind
+unfolding before number_of
+returns-in_err-kind c =
+    let refused : c.from_residual.result ≡ Err c.in_err-kind.field-0.0 = search rules in
+    refused ∙ posts.refused_before electric.rules c.args.book c.args.posting in_limits refl _ (table_refuses _ _ c.in_err-kind.ensures)
+
+pub invariant_of-effect : goal.invariant_of-effect
+unfolding before number_of
+invariant_of-effect c =
+    let accepted = table_accepts _ _ c.in_ok-kind.ensures in
+    record { book_within = book_within c.args.book (shown Electric in_limits c.args.book c.args.posting _ accepted.0).0 }
 
 pub effect-posted-requires : goal.effect-posted-requires
+unfolding before number_of
 effect-posted-requires c =
-    let s = c.args in
-    let known = shown Electric in_limits s.book s.posting _ tt c.refusal_before-number.ensures c.if-number-ne0.false in
-    (book_within s.book known.0, known.1, known.2)
+    let p = c.args.posting in
+    let accepted = table_accepts _ _ c.in_ok-kind.ensures in
+    subst (λ (kind : Kind). Ranged Electric kind p) (sym accepted.1) (shown Electric in_limits c.args.book p _ accepted.0).1
 
 pub returns-then-not-in_limits : goal.returns-then-not-in_limits
+unfolding before number_of
 returns-then-not-in_limits c =
-    let b = c in
-    let s = b.args in
-    c.refuse-then-not-in_limits.ensures ∙ posts.refused_12 posted rules s.book s.posting in_limits refl tt b.refusal_before-number.ensures b.if-number-ne0.false (sym c.effect-posted.ensures.alike ∙ sym c.in_limits.ensures ∙ c.if-not-in_limits.true)
+    let b = c.args.book in
+    let p = c.args.posting in
+    let accepted = table_accepts _ _ c.in_ok-kind.ensures in
+    let effect = subst (λ (kind : Kind). StoredAs fits c.effect-posted.result (effect_at kind b p)) accepted.1 c.effect-posted.ensures in
+    posts.refused_12 electric.rules b p in_limits refl accepted.0 (sym effect.alike ∙ sym c.in_limits.ensures ∙ c.if-not-in_limits.true)
 
 pub returns : goal.returns
+unfolding before number_of
 returns c =
-    let b = c in
-    let s = b.args in
+    let b = c.args.book in
+    let p = c.args.posting in
+    let accepted = table_accepts _ _ c.in_ok-kind.ensures in
+    let effect = subst (λ (kind : Kind). StoredAs fits c.effect-posted.result (effect_at kind b p)) accepted.1 c.effect-posted.ensures in
     let within = sym c.in_limits.ensures ∙ c.if-not-in_limits.false in
-    c.effect-posted.ensures.same within ∙ posts.stored posted rules s.book s.posting in_limits refl tt b.refusal_before-number.ensures b.if-number-ne0.false (sym c.effect-posted.ensures.alike ∙ within)
+    ap Ok (effect.same within) ∙ posts.stored electric.rules b p in_limits refl accepted.0 (sym effect.alike ∙ within)

@@ -1,10 +1,8 @@
--- `postings::unknown_kind` is refusal 2's test. Assumes nothing.
-use mathlib.Core.Path.{ap, ◌∙◌}
-use Prim.Native.Nat.{ℕ}
-use lib.Dec.{eqb}
+use mathlib.Core.Path.{sym, ap, ◌∙◌}
+use Rattle.std.specs.Prelude.{is_some}
+use Rattle.postings.specs.BitMaps.{maps_of}
 use Rattle.postings.proofs.KindTable.{maps_test}
 use Rattle.postings.proofs.unknown_kind.Goals as goal
 
 pub returns : goal.returns
-returns c =
-    ap (λ (n : ℕ). eqb n 0) c.maps_of.ensures ∙ maps_test c.args.book c.args.posting.kind
+returns c = maps_test c.args.book c.args.posting.kind c.is_none.result (sym (ap is_some (c.maps_of.ensures ∙ ap (maps_of c.args.book) c.from.ensures)) ∙ c.is_none.ensures)

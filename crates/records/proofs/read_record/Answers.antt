@@ -1,52 +1,45 @@
 -- `records::read_record` is what reading at the place gives, row by row. Assumes nothing.
-use mathlib.Core.Path.{sym, ◌∙◌}
-use Prim.Native.Nat.{◌+◌, ◌<◌, ◌≤◌}
-use native.Mathlib.Omega.{arith}
-use lib.ListN.{length, drop, length-drop}
-use Rattle.postings.proofs.KindTable.{maps_most}
-use Rattle.postings.specs.BitMaps.{maps_of}
-use Rattle.records.proofs.Reading.{refused₁, refused₂, refused₃, refused₄, fields_are, kind_at, map_at}
-use Rattle.records.specs.Records.{record_length}
+use Rattle.std.specs.Prelude.{◌≡◌, ◌+◌, ◌<◌, ℕ, Err}
+use Rattle.std.proofs.Common.{ap, ◌∙◌, arith, rules}
+use Rattle.refusals.specs.declared.Refusal.TheVariants.{UnknownKind, ZeroPresent}
+use Rattle.records.proofs.Reading.{maps_found, no_record, no_kind, stray, cut_short, zero, taken}
+use Rattle.records.specs.Records.{kind_in, bit_map_in, found_at}
 use Rattle.records.proofs.read_record.Goals as goal
 
-pub returns-then-remaining-lt2 : goal.returns-then-remaining-lt2
-returns-then-remaining-lt2 c =
-    c.refused.ensures ∙ refused₁ _ _ _ (omega (arith, c.remaining-remaining.ensures))
+pub returns-in_default : goal.returns-in_default
+returns-in_default c = no_record _ _ _ _ c.rest-record.ensures c.in_default.len_below
 
-pub returns-then-maps-eq0 : goal.returns-then-maps-eq0
-returns-then-maps-eq0 c =
-    let some : let s = c.args in 2 ≤ length (drop s.place s.bytes.now) = omega (arith, c.remaining-remaining.ensures) in
-    c.refused-then-maps-eq0.ensures ∙ refused₂ _ _ _ (some) (sym c.maps_of-maps.ensures ∙ c.if-maps-eq0.true)
+pub returns-in_err-maps : goal.returns-in_err-maps
+returns-in_err-maps c =
+    let refused : c.from_residual.result ≡ Err c.in_err-maps.field-0.0 = search rules in
+    let refusal : c.in_err-maps.field-0.0 ≡ UnknownKind = grind arith in
+    let none = maps_found c.args.book (kind_in c.rest-record.result.now) c.from.ensures c.maps_of.ensures c.in_err-maps.ensures.ok_part in
+    refused ∙ ap Err refusal ∙ no_kind _ _ _ _ c.rest-record.ensures c.in-len2-up.len_at_least none
 
 pub returns-then-maps-bitmap : goal.returns-then-maps-bitmap
 returns-then-maps-bitmap c =
-    let some : let s = c.args in 2 ≤ length (drop s.place s.bytes.now) = omega (arith, c.remaining-remaining.ensures) in
-    let has : let s = c.args in 0 < maps_of s.book (kind_at s.bytes.now s.place) = omega (arith, c.maps_of-maps.ensures, c.if-maps-eq0.false) in
-    let byte : let s = c.args in map_at s.bytes.now s.place < 256 = omega (arith, c.shared_slice_known-1.given (c.args.place + 1)) in
-    c.refused-then-maps-bitmap.ensures ∙ refused₃ _ _ _ (some) (has) (byte) (omega (arith, c.maps_of-maps.ensures))
+    let byte : bit_map_in c.rest-record.result.now < 256 = search rules in
+    let maps = maps_found c.args.book (kind_in c.rest-record.result.now) c.from.ensures c.maps_of.ensures c.in_ok-maps.ensures.ok_part in
+    stray _ _ _ _ c.rest-record.ensures c.in-len2-up.len_at_least _ maps byte c.if-maps-bitmap.true
 
-pub returns-then-remaining-length : goal.returns-then-remaining-length
-returns-then-remaining-length c =
-    let some : let s = c.args in 2 ≤ length (drop s.place s.bytes.now) = omega (arith, c.remaining-remaining.ensures) in
-    let has : let s = c.args in 0 < maps_of s.book (kind_at s.bytes.now s.place) = omega (arith, c.maps_of-maps.ensures, c.if-maps-eq0.false) in
-    let byte : let s = c.args in map_at s.bytes.now s.place < 256 = omega (arith, c.shared_slice_known-1.given (c.args.place + 1)) in
-    let few : let s = c.args in map_at s.bytes.now s.place < maps_of s.book (kind_at s.bytes.now s.place) = omega (arith, c.maps_of-maps.ensures) in
-    c.refused-then-remaining-length.ensures
-    ∙ refused₄ _ _ _ (some) (has) (byte) (few) (omega (arith, c.record_length-length.ensures, c.remaining-remaining.ensures))
+pub returns-then-record-length : goal.returns-then-record-length
+returns-then-record-length c =
+    let byte : bit_map_in c.rest-record.result.now < 256 = search rules in
+    let maps = maps_found c.args.book (kind_in c.rest-record.result.now) c.from.ensures c.maps_of.ensures c.in_ok-maps.ensures.ok_part in
+    cut_short _ _ _ _ c.rest-record.ensures c.in-len2-up.len_at_least _ maps byte c.if-maps-bitmap.false (omega arith)
 
-pub read_fields-requires : goal.read_fields-requires
-read_fields-requires c =
-    let some : let s = c.args in 2 ≤ length (drop s.place s.bytes.now) = omega (arith, c.remaining-remaining.ensures) in
-    let few : let s = c.args in map_at s.bytes.now s.place < maps_of s.book (kind_at s.bytes.now s.place) = omega (arith, c.maps_of-maps.ensures) in
-    let whole : let s = c.args in record_length (map_at s.bytes.now s.place) ≤ length (drop s.place s.bytes.now) = omega (arith, c.record_length-length.ensures, c.remaining-remaining.ensures) in
-    let s = c.args in
-    (omega (arith, few, maps_most s.book (kind_at s.bytes.now s.place)), omega (arith, whole, some, length-drop s.place s.bytes.now))
+pub returns-in_err-posting : goal.returns-in_err-posting
+returns-in_err-posting c =
+    let byte : bit_map_in c.rest-record.result.now < 256 = search rules in
+    let maps = maps_found c.args.book (kind_in c.rest-record.result.now) c.from.ensures c.maps_of.ensures c.in_ok-maps.ensures.ok_part in
+    let refused : c.from_residual-in_err-posting.result ≡ Err c.in_err-posting.field-0.0 = search rules in
+    let refusal : c.in_err-posting.field-0.0 ≡ ZeroPresent = grind arith in
+    refused ∙ ap Err refusal
+    ∙ zero _ _ _ _ c.rest-record.ensures c.in-len2-up.len_at_least _ maps byte c.if-maps-bitmap.false (omega arith) c.posting_in.ensures c.in_err-posting.ensures.ok_part
 
 pub returns : goal.returns
 returns c =
-    let some : let s = c.args in 2 ≤ length (drop s.place s.bytes.now) = omega (arith, c.remaining-remaining.ensures) in
-    let has : let s = c.args in 0 < maps_of s.book (kind_at s.bytes.now s.place) = omega (arith, c.maps_of-maps.ensures, c.if-maps-eq0.false) in
-    let byte : let s = c.args in map_at s.bytes.now s.place < 256 = omega (arith, c.shared_slice_known-1.given (c.args.place + 1)) in
-    let few : let s = c.args in map_at s.bytes.now s.place < maps_of s.book (kind_at s.bytes.now s.place) = omega (arith, c.maps_of-maps.ensures) in
-    let whole : let s = c.args in record_length (map_at s.bytes.now s.place) ≤ length (drop s.place s.bytes.now) = omega (arith, c.record_length-length.ensures, c.remaining-remaining.ensures) in
-    c.read_fields.ensures ∙ fields_are _ _ _ (some) (has) (byte) (few) (whole)
+    let byte : bit_map_in c.rest-record.result.now < 256 = search rules in
+    let maps = maps_found c.args.book (kind_in c.rest-record.result.now) c.from.ensures c.maps_of.ensures c.in_ok-maps.ensures.ok_part in
+    ap (λ (n : ℕ). found_at (c.args.place + n) c.in_ok-posting.posting) c.record_length-length.ensures
+    ∙ taken _ _ _ _ c.rest-record.ensures c.in-len2-up.len_at_least _ maps byte c.if-maps-bitmap.false (omega arith) _ c.posting_in.ensures c.in_ok-posting.ensures.ok_part

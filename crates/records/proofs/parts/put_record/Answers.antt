@@ -1,75 +1,67 @@
 -- `records::parts::put_record` stores the record: its parts, one behind the other, are it. Assumes nothing.
-use mathlib.Core.Path.{◌≡◌, refl, ap, ◌∙◌}
-use Prim.Native.Nat.{◌+◌, ◌≤◌}
-use native.Mathlib.Omega.{arith}
-use lib.IntN.{ℤ}
-use lib.ListN.{length, set, length-set}
-use lib.Seq.{sets}
-use mir.Syntax.{w64}
-use mir.Val.{SFits, to_z, of_z}
-use mir.Facts.{to_z-of_z}
-use borrow.Author.Rules.{rules}
-use Rattle.records.proofs.Writing.{parts_fit, record_stored}
-use Rattle.records.specs.Fields.{bytes_of}
+use Rattle.std.specs.Prelude.{◌++◌, ℕ, length, drop}
+use Rattle.std.proofs.Common.{arith, sym, ap, ◌∙◌, length-set, length-append, length-drop, rules}
+use Rattle.std.proofs.lemmas.List.{take_rest}
+use Rattle.records.proofs.Writing.{length_record, begun, head_begun, all_begun, field_stored, none_begun, field_begun, field_long, field_fits}
+use Rattle.records.specs.Records.{record_length}
+use Rattle.records.specs.RoundTrips.{InWords}
 use Rattle.records.proofs.parts.put_record.Goals as goal
-
-bytes_read : {z : ℤ} → SFits w64 z → length (bytes_of (to_z w64 (of_z w64 z))) ≡ length (bytes_of z)
-bytes_read f = ap (λ (z : ℤ). length (bytes_of z)) (to_z-of_z f)
+use Rattle.records.proofs.parts.put_record.Goals.{then-number-ne0, else-number-ne0}
 
 pub bounds-buffer-0 : goal.bounds-buffer-0
-bounds-buffer-0 c =
-    let fit : 2 + length (bytes_of c.args.posting.first) + length (bytes_of c.args.posting.second) + length (bytes_of c.args.posting.third) ≤ length c.args.buffer.now = parts_fit c.args.posting _ c.requires.1 in
-    omega (arith, fit)
+unfolding record_length
+bounds-buffer-0 c = omega (arith, c.requires.1, length_record c.args.posting)
 
 pub bounds-buffer-1 : goal.bounds-buffer-1
-bounds-buffer-1 c =
-    let fit : 2 + length (bytes_of c.args.posting.first) + length (bytes_of c.args.posting.second) + length (bytes_of c.args.posting.third) ≤ length c.args.buffer.now = parts_fit c.args.posting _ c.requires.1 in
-    omega (arith, fit, length-set c.args.buffer.now 0 c.args.posting.kind)
+unfolding record_length
+bounds-buffer-1 c = omega (arith, c.requires.1, length_record c.args.posting, length-set c.args.buffer.now 0 c.args.posting.kind)
 
-pub put_field-second-requires : goal.put_field-second-requires
-put_field-second-requires c =
-    let fit : 2 + length (bytes_of c.args.posting.first) + length (bytes_of c.args.posting.second) + length (bytes_of c.args.posting.third) ≤ length c.args.buffer.now = parts_fit c.args.posting _ c.requires.1 in
-    let begun : length (set (set c.args.buffer.now 0 c.args.posting.kind) 1 c.args.bitmap) ≡ length c.args.buffer.now = let l = c.args.buffer.now in
-    length-set (set l 0 c.args.posting.kind) 1 c.args.bitmap ∙ length-set l 0 c.args.posting.kind in
-    let s = c in
-    let f₁ : SFits w64 s.args.posting.first = search rules in
-    omega (arith, fit, begun, bytes_read f₁)
+pub loop-number-init : goal.loop-number-init
+unfolding record_length
+loop-number-init c =
+    let begins = head_begun c.args.posting c.args.buffer.now c.args.bitmap c.requires.0 (omega (arith, c.requires.1, length_record c.args.posting)) in
+    record { place = begins.0; stored = begins.1 }
 
-pub put_field-third-requires : goal.put_field-third-requires
-put_field-third-requires c =
-    let fit : 2 + length (bytes_of c.args.posting.first) + length (bytes_of c.args.posting.second) + length (bytes_of c.args.posting.third) ≤ length c.args.buffer.now = parts_fit c.args.posting _ c.requires.1 in
-    let begun : length (set (set c.args.buffer.now 0 c.args.posting.kind) 1 c.args.bitmap) ≡ length c.args.buffer.now = let l = c.args.buffer.now in
-    length-set (set l 0 c.args.posting.kind) 1 c.args.bitmap ∙ length-set l 0 c.args.posting.kind in
-    let s = c in
-    let f₁ : SFits w64 s.args.posting.first = search rules in
-    let f₂ : SFits w64 s.args.posting.second = search rules in
-    omega (arith, fit, begun, bytes_read f₁, bytes_read f₂, c.put_field-second.ensures.0)
+pub slice_bounds-put_field-count : goal.slice_bounds-put_field-count
+slice_bounds-put_field-count c =
+    let words : InWords c.args.posting = (search rules, search rules, search rules) in
+    omega (arith, c.requires.1, length-set {A = ℕ}, field_fits c.args.posting words c.loop-number.number-index c.loop-number-test.true c.if-number-ne0.true)
+
+pub slice_bounds-put_field-start : goal.slice_bounds-put_field-start
+slice_bounds-put_field-start c =
+    let words : InWords c.args.posting = (search rules, search rules, search rules) in
+    omega (arith, c.requires.1, length-set {A = ℕ}, field_fits c.args.posting words c.loop-number.number-index c.loop-number-test.true c.if-number-ne0.true)
 
 pub put_field-requires : goal.put_field-requires
 put_field-requires c =
-    let fit : 2 + length (bytes_of c.args.posting.first) + length (bytes_of c.args.posting.second) + length (bytes_of c.args.posting.third) ≤ length c.args.buffer.now = parts_fit c.args.posting _ c.requires.1 in
-    let begun : length (set (set c.args.buffer.now 0 c.args.posting.kind) 1 c.args.bitmap) ≡ length c.args.buffer.now = let l = c.args.buffer.now in
-    length-set (set l 0 c.args.posting.kind) 1 c.args.bitmap ∙ length-set l 0 c.args.posting.kind in
-    let s = c in
-    let f₁ : SFits w64 s.args.posting.first = search rules in
-    let f₂ : SFits w64 s.args.posting.second = search rules in
-    let f₃ : SFits w64 s.args.posting.third = search rules in
-    omega (arith, fit, begun, bytes_read f₁, bytes_read f₂, bytes_read f₃, c.put_field-second.ensures.0, c.put_field-third.ensures.0)
+    let s = c.loop-number in
+    let words : InWords c.args.posting = (search rules, search rules, search rules) in
+    let rest = ap length (take_rest s.buffer s.at) ∙ length-drop s.at s.buffer in
+    omega (arith, c.requires.1, length-set {A = ℕ}, field_fits c.args.posting words s.number-index c.loop-number-test.true c.if-number-ne0.true, rest)
+
+pub loop-number-preserved : goal.loop-number-preserved
+loop-number-preserved c =
+    let s = c.loop-number in
+    let words : InWords c.args.posting = (search rules, search rules, search rules) in
+    elim c.if-number-ne0.branch [
+      | then-number-ne0 w ↦
+          let next = field_begun c.args.posting words s.number-index c.loop-number-test.true w.if-number-ne0.true in
+          let long = field_long c.args.posting words s.number-index c.loop-number-test.true w.if-number-ne0.true in
+          let stored = field_stored (begun c.args.posting s.number-index) _ c.args.buffer.now s.buffer _ s.at 8 s.invariant.place (sym long) s.invariant.stored w.put_field.ensures in
+          record {
+            place = omega (arith, w.at-is, ap length next, length-append {A = ℕ}, long, s.invariant.place);
+            stored = w.buffer-is ∙ stored ∙ (λ i. sym next i ++ drop (sym w.at-is i) c.args.buffer.now);
+          }
+      | else-number-ne0 w ↦
+          let next = none_begun c.args.posting words s.number-index c.loop-number-test.true w.if-number-ne0.false in
+          record {
+            place = w.at-is ∙ s.invariant.place ∙ ap length (sym next);
+            stored = w.buffer-is ∙ s.invariant.stored ∙ (λ i. sym next i ++ drop (sym w.at-is i) c.args.buffer.now);
+          }
+    ]
 
 pub returns : goal.returns
 returns c =
-    let s = c in
-    let p = s.args.posting in
-    let f₁ : SFits w64 p.first = search rules in
-    let f₂ : SFits w64 p.second = search rules in
-    let f₃ : SFits w64 p.third = search rules in
-    let b = set (set s.args.buffer.now 0 p.kind) 1 s.args.bitmap in
-    let w₁ = c.put_field-second in
-    let w₂ = c.put_field-third in
-    let w₃ = c.put_field in
-    record_stored p s.args.buffer.now _ _ _ _ s.args.bitmap w₁.result w₂.result s.requires.0 refl
-    (w₁.ensures.1 ∙ ap (λ (z : ℤ). sets b 2 (bytes_of z)) (to_z-of_z f₁))
-    (w₁.ensures.0 ∙ ap (λ (z : ℤ). 2 + length (bytes_of z)) (to_z-of_z f₁))
-    (w₂.ensures.1 ∙ ap (λ (z : ℤ). sets w₁.new.buffer w₁.result (bytes_of z)) (to_z-of_z f₂))
-    (w₂.ensures.0 ∙ ap (λ (z : ℤ). w₁.result + length (bytes_of z)) (to_z-of_z f₂))
-    (w₃.ensures.1 ∙ ap (λ (z : ℤ). sets w₂.new.buffer w₂.result (bytes_of z)) (to_z-of_z f₃))
+    let s = c.loop-number in
+    let whole = all_begun c.args.posting s.number-index s.auto.number-index-end c.loop-number-test.false in
+    s.invariant.stored ∙ (λ i. whole i ++ drop ((s.invariant.place ∙ ap length whole) i) c.args.buffer.now)

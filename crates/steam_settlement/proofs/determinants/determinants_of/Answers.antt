@@ -1,54 +1,53 @@
--- `steam_settlement::determinants::determinants_of` is D within the limits, which it tests one by one, and 0 outside. Assumes nothing.
-use mathlib.Core.Path.{◌≡◌, sym, ◌∙◌}
-use mathlib.Core.Bool.{true, false}
+-- `steam_settlement::determinants::determinants_of` is D within the limits, and 0 outside. Assumes nothing.
+use Rattle.std.specs.Prelude.{◌≡◌, Bool, cond, ◌&&◌, pos}
+use Rattle.std.proofs.Common.{rules, sym, ap, ◌∙◌}
 use mir.Syntax.{w64}
 use mir.Val.{SFits}
-use borrow.Author.Rules.{rules}
-use Rattle.ints.specs.Machine.{tested}
+use mir.Facts.{to_z-of_z}
+use Rattle.ints.specs.Flags.{both}
 use Rattle.ints.specs.Range.{in_range_true}
-use Rattle.steam_rules.specs.Book.{same_mmbtu}
+use Rattle.steam_rules.specs.Book.{mmbtu, same_mmbtu}
+use Rattle.steam_rules.specs.Settlement.{determinants_of}
+use Rattle.steam_rules.specs.Fours.{one_by_one}
 use Rattle.steam_rules.specs.Limits.{mmbtu_in_limits, quarters_in_limits}
-use Rattle.steam_rules.specs.Quarters.{AdjustmentWithin}
 use Rattle.steam_rules.specs.Ranges.{mmbtu_within, quarters_within}
-use Rattle.steam_settlement.specs.Determinants.{adjustment_in_range, determinants_or0, determinants_or0_is}
+use Rattle.steam_settlement.specs.Determinants.{adjustment_in_range, determinants_or0}
 use Rattle.steam_settlement.proofs.determinants.determinants_of.Goals as goal
+use Rattle.steam_settlement.proofs.determinants.determinants_of.Goals.{After-in_range}
 
-pub returns-then-not-in_limits : goal.returns-then-not-in_limits
-unfolding determinants_or0
-returns-then-not-in_limits c =
-    let out : mmbtu_in_limits c.args.sales ≡ false = sym c.in_limits.ensures ∙ c.if-not-in_limits.true in
-    same_mmbtu (sym (simp out))
+abbrev all_within : After-in_range → Bool
+all_within c = let s = c.args in mmbtu_in_limits s.sales && (quarters_in_limits s.quarters && adjustment_in_range s.adjustment.0)
 
-pub returns-then-not-quarters_in_limits : goal.returns-then-not-quarters_in_limits
-unfolding determinants_or0
-returns-then-not-quarters_in_limits c =
-    let sold : mmbtu_in_limits c.args.sales ≡ true = sym c.in_limits.ensures ∙ c.if-not-in_limits.false in
-    let out : quarters_in_limits c.args.quarters ≡ false = sym c.quarters_in_limits.ensures ∙ c.if-not-quarters_in_limits.true in
-    same_mmbtu (sym (simp (sold, out)))
-
-pub returns-then-not-in_range : goal.returns-then-not-in_range
-unfolding determinants_or0 adjustment_in_range
-returns-then-not-in_range c =
-    let sold : mmbtu_in_limits c.args.sales ≡ true = sym c.in_limits.ensures ∙ c.if-not-in_limits.false in
-    let counted : quarters_in_limits c.args.quarters ≡ true = sym c.quarters_in_limits.ensures ∙ c.if-not-quarters_in_limits.false in
-    let f : SFits w64 c.args.adjustment.0 = search rules in
-    let out : adjustment_in_range c.args.adjustment.0 ≡ false = tested adjustment_in_range f c.in_range.ensures c.if-not-in_range.true in
-    same_mmbtu (sym (simp (sold, counted, out)))
-
-pub determinants_within-requires : goal.determinants_within-requires
+tested_within : (c : After-in_range) → c.in_limits.result && (c.quarters_in_limits.result && c.in_range.result) ≡ all_within c
 unfolding adjustment_in_range
-determinants_within-requires c =
-    let sold : mmbtu_in_limits c.args.sales ≡ true = sym c.in_limits.ensures ∙ c.if-not-in_limits.false in
-    let counted : quarters_in_limits c.args.quarters ≡ true = sym c.quarters_in_limits.ensures ∙ c.if-not-quarters_in_limits.false in
-    let ranged : AdjustmentWithin c.args.adjustment.0 = let f : SFits w64 c.args.adjustment.0 = search rules in
-    in_range_true _ _ _ (tested adjustment_in_range f c.in_range.ensures c.if-not-in_range.false) in
-    (mmbtu_within _ (sold), quarters_within _ (counted), ranged)
+tested_within c =
+    let f : SFits w64 c.args.adjustment.0 = search rules in
+    let ranged = c.in_range.ensures ∙ ap adjustment_in_range (to_z-of_z f) in
+    λ i. c.in_limits.ensures i && (c.quarters_in_limits.ensures i && ranged i)
+
+pub returns-then-not-within : goal.returns-then-not-within
+unfolding determinants_or0
+returns-then-not-within c =
+    let s = c.args in
+    let out = sym (tested_within (goal.at.returns-then-not-within c).After-in_range) ∙ c.if-not-within.true in
+    same_mmbtu (sym (ap (λ (t : Bool). cond t (determinants_of s.sales.0 s.quarters s.adjustment.0) (pos 0)) out))
+
+pub invariant_of-determinants : goal.invariant_of-determinants
+unfolding adjustment_in_range
+invariant_of-determinants c =
+    let s = c.args in
+    let within = sym (tested_within (goal.at.invariant_of-determinants c).After-in_range) ∙ c.if-not-within.false in
+    let sold = both (mmbtu_in_limits s.sales) _ within in
+    let rest = both (quarters_in_limits s.quarters) _ sold.1 in
+    record {
+      sales_within = mmbtu_within s.sales sold.0;
+      quarters_within = one_by_one (mmbtu (pos 0)) (quarters_within s.quarters rest.0);
+      adjustment_within = in_range_true _ _ _ rest.1;
+    }
 
 pub returns : goal.returns
-unfolding adjustment_in_range
+unfolding determinants_or0
 returns c =
-    let sold : mmbtu_in_limits c.args.sales ≡ true = sym c.in_limits.ensures ∙ c.if-not-in_limits.false in
-    let counted : quarters_in_limits c.args.quarters ≡ true = sym c.quarters_in_limits.ensures ∙ c.if-not-quarters_in_limits.false in
-    let ranged : AdjustmentWithin c.args.adjustment.0 = let f : SFits w64 c.args.adjustment.0 = search rules in
-    in_range_true _ _ _ (tested adjustment_in_range f c.in_range.ensures c.if-not-in_range.false) in
-    c.determinants_within.ensures ∙ same_mmbtu (sym (determinants_or0_is c.args.sales c.args.quarters c.args.adjustment.0 (mmbtu_within _ (sold)) (quarters_within _ (counted)) (ranged)))
+    let s = c.args in
+    let within = sym (tested_within (goal.at.returns c).After-in_range) ∙ c.if-not-within.false in
+    c.determinants.ensures ∙ same_mmbtu (sym (ap (λ (t : Bool). cond t (determinants_of s.sales.0 s.quarters s.adjustment.0) (pos 0)) within))

@@ -1,0 +1,13 @@
+-- `Accepted::cost` is the effect of a cost posting: it is added to the period. Assumes nothing.
+use Rattle.ints.specs.Exact.{exacts, exact}
+use Rattle.postings.specs.declared.Answer.TheVariants.{Done}
+use Rattle.riders.specs.Rules.{posted}
+use Rattle.electric_rules.specs.Next.{with_period}
+use Rattle.electric.proofs.Parts.{same_cost}
+use Rattle.electric.proofs.effects.Accepted.cost.Goals as goal
+
+pub returns : goal.returns
+returns c =
+    let s = c.args.self in
+    let period = same_cost s.book.period (exact (search (exacts, s.book_within.period, c.requires) depth 30) tt) in
+    λ i. posted Done (with_period s.book (period i))

@@ -1,0 +1,61 @@
+// What a host is handed in place of a result, since C has none: a number, 0 where nothing was refused, and the values beside it.
+ghost use Rattle.std.specs.Prelude.{◌≡◌};
+ghost use Rattle.host.specs.Results.{read_at, written_as};
+
+use postings::Posting;
+use records::Found;
+use refusals::Refusal;
+
+// 0 and how many bytes a writer wrote, or document 01's number of the refusal and 0.
+#[repr(C)]
+#[derive(Clone, Copy)]
+pub struct Written {
+    pub number: u8,
+    pub length: usize,
+}
+
+impl From<Result<usize, Refusal>> for Written {
+    ghost from_gives = { λ answer written. written ≡ written_as answer };
+
+    fn from(answer: Result<usize, Refusal>) -> Written {
+        match answer {
+            Ok(length) => Written { number: 0, length },
+            Err(refusal) => Written {
+                number: refusal.number(),
+                length: 0,
+            },
+        }
+    }
+}
+
+// What reading at a place gives: 0, the next place and the posting; or the number of a refusal, the place, and a posting of kind 0,
+// which is a kind of no book.
+#[repr(C)]
+#[derive(Clone, Copy)]
+pub struct Read {
+    pub number: u8,
+    pub place: usize,
+    pub posting: Posting,
+}
+
+pub(crate) fn read_at(place: usize, found: Result<Found, Refusal>) -> Read
+    ensures { result ≡ read_at place found }
+{
+    match found {
+        Ok(found) => Read {
+            number: 0,
+            place: found.place,
+            posting: found.posting,
+        },
+        Err(refusal) => Read {
+            number: refusal.number(),
+            place,
+            posting: Posting {
+                kind: 0,
+                first: 0,
+                second: 0,
+                third: 0,
+            },
+        },
+    }
+}

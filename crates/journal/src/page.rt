@@ -1,0 +1,52 @@
+// A page: what is printed goes into a lent buffer, piece by piece.
+ghost use Rattle.std.specs.Prelude.{◌≡◌, ◌+◌, ◌^◌, ◌<◌, ◌≤◌, length};
+ghost use Rattle.amounts.specs.Text.{text_left};
+ghost use Rattle.journal.specs.Steps.{Puts};
+
+use crate::pieces::Piece;
+
+// A lent buffer, and how far the pieces so far reach: past its end they are counted and not stored.
+#[derive(Drop)]
+pub struct Page<'a> {
+    buffer: &'a mut [u8],
+    pub used: usize,
+}
+
+fn put_bytes(word: &[u8], part: &mut [u8]) -> usize
+    ensures { (result ≡ length word.now) × (part.new ≡ text_left word.now part.old) }
+{
+    if word.len() <= part.len() {
+        let front = &mut part[..word.len()];
+        front.copy_from_slice(word);
+    }
+    word.len()
+}
+
+impl<'a> Page<'a> {
+    pub fn new(buffer: &'a mut [u8]) -> Page<'a>
+        ensures same_buffer { result.buffer.ghost_name ≡ buffer.entry.ghost_name }
+        ensures empty { result.used ≡ 0 }
+        ensures as_lent { result.buffer.now ≡ buffer.old }
+    {
+        Page { buffer, used: 0 }
+    }
+
+    pub fn put<T: Piece>(&mut self, piece: T)
+        requires { self.old.used + T.most < 2 ^ 64 }
+        ensures same_buffer { self.new.buffer.ghost_name ≡ self.old.buffer.ghost_name }
+        ensures puts { Puts (T.text piece) self.old.used self.old.buffer.now self.new.used self.new.buffer.now }
+        ensures short { self.new.used ≤ self.old.used + T.most }
+    {
+        let start = self.used.min(self.buffer.len());
+        self.used += piece.put(&mut self.buffer[start..]);
+    }
+
+    pub fn put_word(&mut self, word: &[u8])
+        requires { self.old.used + length word.now < 2 ^ 64 }
+        ensures same_buffer { self.new.buffer.ghost_name ≡ self.old.buffer.ghost_name }
+        ensures puts { Puts word.now self.old.used self.old.buffer.now self.new.used self.new.buffer.now }
+    {
+        let start = self.used.min(self.buffer.len());
+        self.used += put_bytes(word, &mut self.buffer[start..]);
+    }
+}
