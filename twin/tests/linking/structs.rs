@@ -4,11 +4,10 @@ use crate::c_types::c_type;
 use crate::files::{file, HEADER};
 
 /// The files that declare what a host is handed, each with those structs.
-const SOURCES: [(&str, &[&str]); 9] = [
+const SOURCES: [(&str, &[&str]); 8] = [
     ("crates/amounts/src/lib.rt", &["Cents", "Points"]),
     ("crates/postings/src/lib.rt", &["Posting"]),
-    ("crates/refusals/src/lib.rt", &["Written"]),
-    ("crates/records/src/lib.rt", &["Read"]),
+    ("crates/host/src/results.rt", &["Written", "Read"]),
     ("crates/riders/src/lib.rt", &["Run"]),
     (
         "crates/electric_rules/src/lib.rt",
