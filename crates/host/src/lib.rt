@@ -51,6 +51,7 @@ pub extern "C" fn neapscroll_write_points(points: Points, buffer: &mut [u8]) -> 
     Written::from(points.write(buffer))
 }
 
+// A flag, since C passes no enum of the ledger's.
 fn book_of(steam: bool) -> Book
     ensures { result ≡ book_of steam }
 {

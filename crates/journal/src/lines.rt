@@ -53,7 +53,7 @@ impl Page<'_> {
     }
 
     // The line of a record: its number, its kind and the answer.
-    pub fn put_line(&mut self, number: u32, kind: u8, answer: Result<Answer, Refusal>)
+    pub(crate) fn put_line(&mut self, number: u32, kind: u8, answer: Result<Answer, Refusal>)
         requires { self.old.used ≤ 2 ^ 32 }
         ensures same_buffer { self.new.buffer.ghost_name ≡ self.old.buffer.ghost_name }
         ensures puts { Puts (record_line number kind answer) self.old.used self.old.buffer.now self.new.used self.new.buffer.now }
@@ -67,7 +67,7 @@ impl Page<'_> {
     }
 
     // What is printed for an input that opens no book.
-    pub fn put_refused(&mut self, refusal: Refusal)
+    pub(crate) fn put_refused(&mut self, refusal: Refusal)
         requires { self.old.used ≤ 2 ^ 32 }
         ensures same_buffer { self.new.buffer.ghost_name ≡ self.old.buffer.ghost_name }
         ensures puts { Puts (opening_refused refusal) self.old.used self.old.buffer.now self.new.used self.new.buffer.now }

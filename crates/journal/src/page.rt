@@ -7,9 +7,9 @@ use crate::pieces::Piece;
 
 // A lent buffer, and how far the pieces so far reach: past its end they are counted and not stored.
 #[derive(Drop)]
-pub struct Page<'a> {
+pub(crate) struct Page<'a> {
     buffer: &'a mut [u8],
-    pub used: usize,
+    pub(crate) used: usize,
 }
 
 fn put_bytes(word: &[u8], part: &mut [u8]) -> usize
@@ -23,7 +23,7 @@ fn put_bytes(word: &[u8], part: &mut [u8]) -> usize
 }
 
 impl<'a> Page<'a> {
-    pub fn new(buffer: &'a mut [u8]) -> Page<'a>
+    pub(crate) fn new(buffer: &'a mut [u8]) -> Page<'a>
         ensures same_buffer { result.buffer.ghost_name ≡ buffer.entry.ghost_name }
         ensures empty { result.used ≡ 0 }
         ensures as_lent { result.buffer.now ≡ buffer.old }
@@ -31,7 +31,7 @@ impl<'a> Page<'a> {
         Page { buffer, used: 0 }
     }
 
-    pub fn put<T: Piece>(&mut self, piece: T)
+    pub(crate) fn put<T: Piece>(&mut self, piece: T)
         requires { self.old.used + T.most < 2 ^ 64 }
         ensures same_buffer { self.new.buffer.ghost_name ≡ self.old.buffer.ghost_name }
         ensures puts { Puts (T.text piece) self.old.used self.old.buffer.now self.new.used self.new.buffer.now }
@@ -41,7 +41,7 @@ impl<'a> Page<'a> {
         self.used += piece.put(&mut self.buffer[start..]);
     }
 
-    pub fn put_word(&mut self, word: &[u8])
+    pub(crate) fn put_word(&mut self, word: &[u8])
         requires { self.old.used + length word.now < 2 ^ 64 }
         ensures same_buffer { self.new.buffer.ghost_name ≡ self.old.buffer.ghost_name }
         ensures puts { Puts word.now self.old.used self.old.buffer.now self.new.used self.new.buffer.now }

@@ -5,7 +5,7 @@ ghost use Rattle.amounts.specs.Text.{decimal, cents_text, points_text, text_left
 use amounts::{Amount, Cents, Points};
 
 // What is printed as a text of its own.
-pub trait Piece: Copy {
+pub(crate) trait Piece: Copy {
     // Its text, and how long that may be.
     ghost text: { Self → List ℕ };
 
@@ -18,6 +18,7 @@ pub trait Piece: Copy {
         ensures stored { buffer.new ≡ text_left (text self) buffer.old };
 }
 
+// Cents and points each by the trait of amounts: one impl for every `Amount` is refused, since it might fit `u32` too.
 impl Piece for Cents {
     ghost text = { cents_text };
 

@@ -73,6 +73,7 @@ impl Page<'_> {
         let mut book = fresh;
         let mut place = start;
         let mut number: u32 = 1;
+        // A record is as long as its bits say, so the place is the reader's and no index that an iterator would count.
         while place < input.len() {
             match records::read_record(B::KINDS, input, place) {
                 Ok(found) => {
