@@ -10,7 +10,7 @@ use Prim.Native.Nat.{ℕ, zero, suc, ◌+◌, ◌-◌, ◌*◌, ◌/◌, ◌%◌
 use native.Mathlib.Omega.{arith}
 use native.Mathlib.Nat.{div-lt_iff_lt-mul, pow-le-pow_right}
 use Rattle.amounts.proofs.Widths.{width_most}
-use lib.Dec.{ltb, lit<}
+use lib.Dec.{lit<}
 use lib.IntN.{ℤ, pos, nat_abs}
 use lib.Signed.{lt_z}
 use lib.ListN.{length, set, take, drop, length-set, length-map, length-append}
@@ -23,15 +23,13 @@ use borrow.Author.Tests.{lt-ltb, le-ltb}
 use Rattle.ints.specs.Digits.{digits}
 use Rattle.ints.proofs.DigitLaws.{length_digits}
 use Rattle.ints.specs.Order.{signed}
-use Rattle.refusals.specs.Rows.{row, by_table}
 use Rattle.refusals.proofs.TableLaws.{at_row, accepted, gives_asked}
 use Rattle.refusals.specs.Stores.{sets_append, sets_front}
 use Rattle.refusals.specs.Writer.{too_short}
 use Rattle.refusals.specs.declared.Refusal.{Refusal}
 use Rattle.refusals.specs.declared.Refusal.TheVariants.{BufferTooShort}
-use Rattle.std.specs.Prelude.{Ok, Err}
 use Rattle.refusals.proofs.WriterLaws.{writer_refuses, writer_accepts}
-use Rattle.amounts.specs.Text.{characters, width_of, decimal, sign_of, text_of, text_rows, text_written, text_left}
+use Rattle.amounts.specs.Text.{characters, width_of, decimal, sign_of, text_of, text_rows, text_left}
 
 pub length_characters : (count n : ℕ) → length (characters (digits 10 count n)) ≡ count
 length_characters count n = length-map (digits 10 count n) (λ (d : ℕ). 48 + d) ∙ length_digits 10 count n
@@ -160,11 +158,6 @@ kept text buffer h = (writer_refuses (text_rows text buffer) text buffer BufferT
 pub stored : (text buffer after : List ℕ) → length text ≤ length buffer → after ≡ sets buffer 0 text → after ≡ text_left text buffer
 unfolding text_left too_short
 stored text buffer after h s = (writer_accepts (text_rows text buffer) text buffer after (length text) (accepted (text_rows text buffer) (le-ltb (length buffer) (length text) h, tt)) h refl s).1
-
--- a writer answers by the lengths of text and buffer alone
-pub answered : (text buffer : List ℕ) (n room : ℕ) → n ≡ length text → room ≡ length buffer → by_table (row BufferTooShort (ltb room n) ∷ []) (Ok n) Err ≡ text_written text buffer
-unfolding text_written too_short
-answered text buffer n room e f = λ i. by_table (row BufferTooShort (ltb (f i) (e i)) ∷ []) (Ok (e i)) Err
 
 -- a buffer that holds the text has it at its front
 pub left_front : (text buffer : List ℕ) (n : ℕ) → n ≡ length text → n ≤ length buffer → take n (text_left text buffer) ≡ text

@@ -2,7 +2,6 @@
 #![tactic(auto)]
 
 ghost use Rattle.std.specs.Prelude.{◌≡◌, Bool, List, Some, ℕ, ℤ, ◌≤◌, length};
-ghost use Rattle.std.specs.List.{list_all};
 ghost use Rattle.std.proofs.Common.{rules};
 ghost use Rattle.amounts.specs.Amounts.{cents_in_limits, points_in_limits};
 ghost use Rattle.amounts.specs.Text.{text_of, cents_text, cents_text_is, points_text, points_text_is, text_written, text_left};
@@ -20,15 +19,6 @@ pub trait Stored: Copy {
     // in place of a line.
     fn in_limits(self) -> bool
         ensures { result ≡ within self };
-}
-
-// A book may store an array where it may store each element.
-impl<T: Stored, const N: usize> Stored for [T; N] {
-    ghost within = { list_all T.within };
-
-    fn in_limits(self) -> bool {
-        self.iter().all(|value| value.in_limits())
-    }
 }
 
 // A stored value that has a text.
@@ -50,7 +40,8 @@ pub trait Amount: Stored {
 
     ghost few_places: { (1 ≤ PLACES) × (PLACES ≤ 4) };
 
-    // Stores the text where the buffer has room for it, and answers its length in either case.
+    // Stores the text where the buffer has room for it, and answers its length in either case. std's `write!` into a slice would leave a part
+    // of a text that is too long.
     final fn put(self, buffer: &mut [u8]) -> usize
         ensures { (result ≡ length (text self)) × (result ≤ 24) × (buffer.new ≡ text_left (text self) buffer.old) }
     {
@@ -60,6 +51,7 @@ pub trait Amount: Stored {
         let whole = size / 10u64.pow(Self::PLACES);
         let start = usize::from(negative);
         let point = start + text::width(whole);
+        // No `from` takes a u32, which `pow` asks for, to a usize.
         let length = point + 1 + Self::PLACES as usize;
         if buffer.len() < length {
             return length;
@@ -74,6 +66,7 @@ pub trait Amount: Stored {
     }
 
     // Writes the amount as text into the buffer: how many bytes, or refusal 13 with the buffer as it was.
+    #[tactic(auto, unfolding(crate::specs::Text::text_written, refusals::specs::Writer::too_short))]
     final fn write(self, buffer: &mut [u8]) -> Result<usize, Refusal>
         ensures { (result ≡ text_written (text self) buffer.old) × (buffer.new ≡ text_left (text self) buffer.old) }
     {
@@ -103,11 +96,13 @@ impl Cents {
 impl Stored for Cents {
     ghost within = { cents_in_limits };
 
+    #[tactic(auto, unfolding(crate::specs::Amounts::cents_in_limits))]
     fn in_limits(self) -> bool {
         ints::in_range(self.0, Cents::LEAST, Cents::MOST)
     }
 }
 
+// Of each kind of amount only its number and its text stand apart: the rest follows in the trait.
 impl Amount for Cents {
     ghost number = { λ amount. amount.0 };
 
@@ -126,6 +121,7 @@ impl Amount for Cents {
     }
 }
 
+// One `Display` a kind: the compiler refuses one for every `Amount`, as std's trait is not this crate's.
 impl fmt::Display for Cents {
     ghost output = { λ amount. Some (cents_text amount) };
 
@@ -148,6 +144,7 @@ impl Points {
 impl Stored for Points {
     ghost within = { points_in_limits };
 
+    #[tactic(auto, unfolding(crate::specs::Amounts::points_in_limits))]
     fn in_limits(self) -> bool {
         ints::in_range(
             self.number(),

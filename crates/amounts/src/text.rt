@@ -6,10 +6,11 @@ ghost use Rattle.refusals.specs.Rows.{row, by_table};
 ghost use Rattle.amounts.specs.Text.{characters, width_of, decimal, text_left};
 
 use crate::Amount;
-use refusals::Refusal;
+use refusals::{Refusal, refuse_if};
 use std::{fmt, str};
 
-// How many digits a whole number has.
+// How many digits a whole number has. `as` stands where std has no `from`: a u32 as a usize, a remainder as a byte.
+#[tactic(auto, using(crate::proofs::Widths::width_by_ilog10))]
 pub(crate) fn width(n: u64) -> usize
     ensures digits { result ≡ width_of n }
     ensures few { result ≤ 20 }
@@ -17,7 +18,7 @@ pub(crate) fn width(n: u64) -> usize
     n.max(1).ilog10() as usize + 1
 }
 
-// Stores the last digits of n, as many as there is room for, two at a time.
+// Stores the last digits of n, as many as there is room for, two at a time: std shows digits by a formatter alone, and not the last of them.
 pub(crate) fn put_digits(part: &mut [u8], n: u64)
     ensures { part.new ≡ characters (digits 10 (length part.old) n) }
 {
@@ -31,12 +32,11 @@ pub(crate) fn put_digits(part: &mut [u8], n: u64)
 }
 
 // What the writer of a text of this length answers for a buffer of that one.
+#[tactic(auto, unfolding(refusals::specs::Rows::refusal_by, refusals::specs::Rows::by_table))]
 pub(crate) fn written(length: usize, room: usize) -> Result<usize, Refusal>
     ensures { result ≡ by_table (row Refusal.BufferTooShort (ltb room length) ∷ []) (Ok length) Err }
 {
-    if room < length {
-        return Err(Refusal::BufferTooShort);
-    }
+    refuse_if(room < length, Refusal::BufferTooShort)?;
     Ok(length)
 }
 

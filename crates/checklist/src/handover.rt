@@ -1,5 +1,5 @@
 // Handover: a run past February, and the cents still due are carried, not forgotten.
-use crate::histories::{self, ElectricPostings, Ledger, SteamPostings, Voltage};
+use crate::histories::{self, ElectricPostings, Histories, SteamPostings, Voltage};
 use crate::report::Tally;
 use crate::shown::Shown;
 use electric_rules::ElectricBook;

@@ -1,67 +1,47 @@
-// Postings to a book in its own terms, each by the proved call, one after another for as long as none is refused.
+// Postings to a book in its own terms, each by the proved call, one after another for as long as none is refused. Each function below is a
+// step of the field engineer's list under its own name, however short.
 use electric_rules::ElectricBook;
+use ledger::Ledger;
 use postings::kinds::Kind;
-use postings::{Answer, Posted, Posting};
+use postings::{Posted, Posting};
 use refusals::Refusal;
 use steam_rules::{Mmbtu, SteamBook};
 
-// A book that histories are posted to.
-pub(crate) trait Ledger: Copy {
-    fn take(self, posting: Posting) -> Result<Posted<Self>, Refusal>;
-
-    fn post(self, kind: Kind, first: i64, second: i64) -> Result<Posted<Self>, Refusal> {
-        self.take(Posting {
-            kind: kind as u8,
-            first,
-            second,
-            third: 0,
-        })
+// A posting of a kind, of which it holds the number, as a record does.
+pub(crate) fn posting(kind: Kind, first: i64, second: i64) -> Posting {
+    Posting {
+        kind: u8::from(kind),
+        first,
+        second,
+        third: 0,
     }
+}
 
-    // The same where only the book after it is of use.
-    fn after(self, kind: Kind, first: i64, second: i64) -> Result<Self, Refusal> {
-        let posted = self.post(kind, first, second)?;
+// What is posted to either book.
+pub(crate) trait Histories: Ledger {
+    // Where only the book after it is of use.
+    fn after(self, posting: Posting) -> Result<Self, Refusal> {
+        let posted = self.post(posting)?;
         Ok(posted.book)
     }
 
     fn cost(self, cents: i64) -> Result<Self, Refusal> {
-        self.after(Kind::Cost, cents, 0)
+        self.after(posting(Kind::Cost, cents, 0))
     }
 
     // So many months' ends without interest.
     fn months(self, count: u8) -> Result<Self, Refusal> {
         let mut book = self;
         for _ in 0..count {
-            book = book.after(Kind::MonthEnd, 0, 0)?;
+            book = book.after(posting(Kind::MonthEnd, 0, 0))?;
         }
         Ok(book)
     }
 }
 
-impl Ledger for ElectricBook {
-    fn take(self, posting: Posting) -> Result<Posted<ElectricBook>, Refusal> {
-        electric::post(self, posting)
-    }
-}
+impl<B: Ledger> Histories for B {}
 
-impl Ledger for SteamBook {
-    fn take(self, posting: Posting) -> Result<Posted<SteamBook>, Refusal> {
-        steam::post(self, posting)
-    }
-}
-
-// What a posting to the book is answered, and the book after it: the next one, or where it is refused the book as it was.
-pub(crate) fn answered<B: Ledger>(
-    book: B,
-    posted: Result<Posted<B>, Refusal>,
-) -> (Result<Answer, Refusal>, B) {
-    match posted {
-        Ok(posted) => (Ok(posted.answer), posted.book),
-        Err(refusal) => (Err(refusal), book),
-    }
-}
-
-// A voltage level, by the number that a bill or an adjustment gives it.
+// A voltage level. A field of a bill or an adjustment has its number, which is its place here: by `as`, as nothing else gives it.
 #[derive(Clone, Copy)]
 pub(crate) enum Voltage {
     Secondary,
@@ -74,27 +54,27 @@ pub(crate) fn fresh_electric() -> Result<ElectricBook, Refusal> {
 }
 
 // What is posted to the electric book alone: a trait with one impl, since the book's type is of a lower crate.
-pub(crate) trait ElectricPostings: Ledger {
+pub(crate) trait ElectricPostings: Histories {
     fn sales(self, secondary: i64, primary: i64) -> Result<Self, Refusal> {
-        self.after(Kind::Sales, secondary, primary)
+        self.after(posting(Kind::Sales, secondary, primary))
     }
 
     fn bill(self, level: Voltage, kwh: i64) -> Result<Posted<Self>, Refusal> {
-        self.post(Kind::Bill, level as i64, kwh)
+        self.post(posting(Kind::Bill, level as i64, kwh))
     }
 
     // With the sales that are estimated for the factors' year.
     fn settle(self, secondary: i64, primary: i64) -> Result<Posted<Self>, Refusal> {
-        self.post(Kind::Settle, secondary, primary)
+        self.post(posting(Kind::Settle, secondary, primary))
     }
 
     // At a yearly rate in millionths.
     fn month_end(self, rate: i64) -> Result<Posted<Self>, Refusal> {
-        self.post(Kind::MonthEnd, rate, 0)
+        self.post(posting(Kind::MonthEnd, rate, 0))
     }
 
     fn adjust(self, level: Voltage, cents: i64) -> Result<Self, Refusal> {
-        self.after(Kind::Adjust, level as i64, cents)
+        self.after(posting(Kind::Adjust, level as i64, cents))
     }
 
     // From a fresh book's June to November.
@@ -121,23 +101,23 @@ pub(crate) fn fresh_steam(quarter: i64) -> Result<SteamBook, Refusal> {
 }
 
 // What is posted to the steam book alone, likewise.
-pub(crate) trait SteamPostings: Ledger {
+pub(crate) trait SteamPostings: Histories {
     fn sales(self, mmbtu: i64) -> Result<Self, Refusal> {
-        self.after(Kind::Sales, mmbtu, 0)
+        self.after(posting(Kind::Sales, mmbtu, 0))
     }
 
     fn bill(self, mmbtu: i64) -> Result<Posted<Self>, Refusal> {
-        self.post(Kind::Bill, mmbtu, 0)
+        self.post(posting(Kind::Bill, mmbtu, 0))
     }
 
     // Without an adjustment of the sales.
     fn settle(self) -> Result<Posted<Self>, Refusal> {
-        self.post(Kind::Settle, 0, 0)
+        self.post(posting(Kind::Settle, 0, 0))
     }
 
     // What is carried, over so many months of such sales.
     fn reconcile(self, months: i64, mmbtu: i64) -> Result<Self, Refusal> {
-        self.after(Kind::Reconcile, months, mmbtu)
+        self.after(posting(Kind::Reconcile, months, mmbtu))
     }
 
     // From a quarter's first month to its last.

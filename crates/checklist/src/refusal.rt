@@ -1,10 +1,12 @@
-// Refusal: a settlement in the wrong month, then on, and the book is as if it had never been posted.
-use crate::histories::{self, ElectricPostings, Ledger, SteamPostings, Voltage};
+// Refusal: a settlement in the wrong month, then on, and the book that the refused call leaves is as if it had never been posted.
+use crate::histories::{self, ElectricPostings, Histories, SteamPostings, Voltage};
 use crate::report::Tally;
 use crate::shown::Shown;
 use comparisons::{electric_fields, steam_fields};
 use electric_rules::ElectricBook;
+use ledger::Ledger;
 use postings::Posted;
+use postings::kinds::Kind;
 use refusals::Refusal;
 use steam_rules::SteamBook;
 
@@ -18,13 +20,13 @@ fn electric(tally: &mut Tally) -> Result<(), Refusal> {
     let june = histories::fresh_electric()?
         .cost(2_000_000)?
         .sales(600_000, 400_000)?;
-    let (answer, left) = histories::answered(june, june.settle(1_250_000, 800_000));
+    let mut left = june;
+    let answer = left.take(histories::posting(Kind::Settle, 1_250_000, 800_000));
     tally.fact(
         "Refusal, electric, settlement in June",
         Shown(answer),
         "refused 8",
     );
-    // The call is lent no book and hands none back where it refuses, so this and what follows from it hold by its type.
     tally.fact(
         "Refusal, electric, fields that differ after it, of 23",
         electric_fields::differing(june, left),
@@ -70,13 +72,13 @@ fn steam(tally: &mut Tally) -> Result<(), Refusal> {
     let january = histories::fresh_steam(10_000)?
         .cost(3_700_000)?
         .sales(10_000)?;
-    let (answer, left) = histories::answered(january, january.settle());
+    let mut left = january;
+    let answer = left.take(histories::posting(Kind::Settle, 0, 0));
     tally.fact(
         "Refusal, steam, settlement in January",
         Shown(answer),
         "refused 8",
     );
-    // By the call's type, as on the electric book.
     tally.fact(
         "Refusal, steam, fields that differ after it, of 23",
         steam_fields::differing(january, left),

@@ -1,5 +1,5 @@
 // Rounding: two tiny periods settled in a row, and no remainder is dropped.
-use crate::histories::{self, ElectricPostings, Ledger, SteamPostings};
+use crate::histories::{self, ElectricPostings, Histories, SteamPostings};
 use crate::report::Tally;
 use crate::shown::Shown;
 use electric_rules::ElectricBook;
@@ -60,6 +60,7 @@ fn steam(tally: &mut Tally) -> Result<(), Refusal> {
     Ok(())
 }
 
+// As `period`, of the other book's fields.
 fn quarter(tally: &mut Tally, what: &str, book: SteamBook, share: &str, remainder: &str) {
     tally.fact(what, book.pending.due, share);
     tally.fact(

@@ -1,4 +1,4 @@
-// What a fact shows, as the journal prints it: answers and refusals in the ledger's own text.
+// What a fact shows, as the journal prints it: answers and refusals in the ledger's own text, written apart so that the one is no proof of itself.
 use postings::Answer;
 use refusals::Refusal;
 use std::fmt;

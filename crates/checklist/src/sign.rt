@@ -1,5 +1,5 @@
 // Sign: ten units billed at a credit factor keep their minus.
-use crate::histories::{self, ElectricPostings, Ledger, SteamPostings, Voltage};
+use crate::histories::{self, ElectricPostings, Histories, SteamPostings, Voltage};
 use crate::report::Tally;
 use crate::shown::Shown;
 use electric_rules::ElectricBook;

@@ -13,7 +13,7 @@ pub(crate) fn in_field<T: PartialEq + Copy>(one: T, other: T) -> u64
     u64::from(one != other)
 }
 
-// Two arrays, place by place.
+// Two arrays, place by place. The count is turned by `as`, since Rust has no `From` of a usize for a u64.
 pub(crate) fn in_places<T: PartialEq>(one: &[T], other: &[T]) -> u64
     ensures { (result ≡ count_by (λ pair. not (T.eq pair.0 pair.1)) (zip one.now other.now)) × (result ≤ length one.now) }
 {

@@ -66,7 +66,8 @@ fn print_journal<W: Write>(output: &mut W, read: &[u8], text: &mut [u8]) -> io::
     print(output, read, &text[..length])
 }
 
-// To standard error. Where a write fails the next is tried all the same, and nothing is left to say it to.
+// To standard error, in bytes, as a program hands them over.
+// Where a write fails the next is tried all the same, and nothing is left to say it to.
 fn say<E: Write>(errors: &mut E, program: &[u8], words: &[u8]) {
     let _ = errors.write_all(program);
     let _ = errors.write_all(words);

@@ -3,7 +3,10 @@ use mathlib.Core.Path.{◌≡◌, sym, ◌∙◌, ap}
 use mathlib.Core.List.{[], ◌∷◌}
 use lib.IntN.{ℤ, pos, neg_ℤ, ◌+ℤ◌, ◌-ℤ◌, ◌*ℤ◌}
 use Rattle.ints.specs.Ring.{solve, ◌:+◌, ◌:-◌, ◌:*◌, ◌:=◌, #}
-use Rattle.ints.specs.Range.{Between, Within}
+use mir.Syntax.{w32}
+use mir.Val.{to_z, of_z}
+use Rattle.ints.specs.Exact.{exacts, exact}
+use Rattle.ints.specs.Range.{Between, Within, between_same}
 use Rattle.ints.specs.Bound.{bounds, within_by}
 use Rattle.rounding.specs.Round.{round}
 use Rattle.rounding.proofs.RoundLaws.{rounds}
@@ -11,6 +14,12 @@ use Rattle.riders.specs.Lines.{line_of, part_of, no_line}
 use Rattle.electric_rules.specs.declared.Level.{Level}
 use Rattle.electric_rules.specs.Levels.{factors_of, level_line, bearing_of, interest_on}
 use Rattle.electric_rules.specs.Ranges.{LevelWithin}
+
+-- a factor as it is read for a product
+pub factor_read : {z f : ℤ} → z ≡ to_z w32 (of_z w32 f) → Within 99999 f → Within 99999 z
+factor_read {z} {f} e h =
+    let same : to_z w32 (of_z w32 f) ≡ f = exact (search (exacts, h) depth 30) tt in
+    between_same (e ∙ same) h
 
 module _ (u : ℤ) (l : Level) where
   pub line_is : round (u *ℤ (l.first.factor.0 +ℤ l.second.factor.0)) (pos 100) ≡ level_line u l

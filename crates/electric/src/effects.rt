@@ -6,13 +6,14 @@ ghost use Rattle.electric_rules.specs.Next.{level_at};
 ghost use Rattle.electric_rules.specs.Ranges.{BookWithin};
 ghost use Rattle.electric.specs.Stored.{effect_at, fits};
 
-use crate::levels::LevelInLimits;
+use crate::levels::{LevelInLimits, MonthEnd};
 use amounts::Cents;
 use electric_rules::{ElectricBook, Kwh, Period, Sales};
 use postings::kinds::Kind;
 use postings::{Answer, Book, Posted, Posting};
 
-// A posting with the book that it is posted to, which is within its limits.
+// A posting with the book that it is posted to, which is within its limits. What a kind asks of the posting is no field: each method would have
+// to ask for its kind instead. The steam book has the like, of its own limits.
 #[derive(Clone, Copy)]
 pub(crate) struct Accepted {
     pub(crate) book: ElectricBook,
@@ -31,10 +32,7 @@ impl Accepted {
             cost,
             ..book.period
         };
-        Posted {
-            answer: Answer::Done,
-            book: ElectricBook { period, ..book },
-        }
+        riders::done(ElectricBook { period, ..book })
     }
 
     fn sales(self) -> Posted<ElectricBook>
@@ -50,10 +48,7 @@ impl Accepted {
             sales,
             ..book.period
         };
-        Posted {
-            answer: Answer::Done,
-            book: ElectricBook { period, ..book },
-        }
+        riders::done(ElectricBook { period, ..book })
     }
 
     // The level that a bill or an adjustment names.
@@ -81,10 +76,7 @@ impl Accepted {
         ensures { result ≡ effect_at Kind.Adjust self.book self.posting }
     {
         let adjusted = self.level().adjusted(self.posting);
-        Posted {
-            answer: Answer::Done,
-            book: self.book.with_level(self.posting.first, adjusted),
-        }
+        riders::done(self.book.with_level(self.posting.first, adjusted))
     }
 
     fn month_end(self) -> Posted<ElectricBook>
@@ -92,15 +84,19 @@ impl Accepted {
         ensures { result ≡ effect_at Kind.MonthEnd self.book self.posting }
     {
         let Accepted { book, posting, .. } = self;
-        let entering = electric_refusals::calendar::entering(book.month);
+        let month_end = MonthEnd {
+            posting,
+            entering: electric_refusals::calendar::entering(book.month),
+        };
+        // Each level is named where its limits are shown, here and in the settlement.
         let on_secondary = LevelInLimits {
             level: book.secondary,
         };
         let on_primary = LevelInLimits {
             level: book.primary,
         };
-        let (secondary_interest, secondary) = on_secondary.ended(posting, entering);
-        let (primary_interest, primary) = on_primary.ended(posting, entering);
+        let (secondary_interest, secondary) = on_secondary.ended(month_end);
+        let (primary_interest, primary) = on_primary.ended(month_end);
         Posted {
             answer: Answer::Interest(secondary_interest, primary_interest),
             book: ElectricBook {
@@ -140,6 +136,7 @@ impl Accepted {
         }
     }
 
+    // The effect of the posting, by its kind; that of a kind which no book has, or steam's alone, is none.
     pub(crate) fn effect(self, kind: Kind) -> Posted<ElectricBook>
         requires { Ranged Book.Electric kind self.posting }
         ensures { StoredAs fits result (effect_at kind self.book self.posting) }
@@ -151,10 +148,7 @@ impl Accepted {
             Kind::Settle => self.settlement(),
             Kind::MonthEnd => self.month_end(),
             Kind::Adjust => self.adjustment(),
-            Kind::Reconcile | Kind::Unknown => Posted {
-                answer: Answer::Done,
-                book: self.book,
-            },
+            Kind::Reconcile | Kind::Unknown => riders::done(self.book),
         }
     }
 }

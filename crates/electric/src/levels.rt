@@ -4,6 +4,8 @@ ghost use Rattle.ints.specs.Range.{Within};
 ghost use Rattle.rounding.specs.Round.{round};
 ghost use Rattle.amounts.specs.Amounts.{cents};
 ghost use Rattle.postings.specs.Ranged.{Ranged};
+ghost use Rattle.postings.specs.declared.kinds.Kind.TheVariants.{MonthEnd as MonthEndKind};
+ghost use Rattle.postings.specs.declared.Book.TheVariants.{Electric};
 ghost use Rattle.riders.specs.Runs.{due_less, filed_run, RunWithin};
 ghost use Rattle.electric_rules.specs.Levels.{level_line, billed_level, adjusted_level, owed_by, bearing_of, interest_on, accrued_level, handed_over};
 ghost use Rattle.electric_rules.specs.Ranges.{LevelWithin};
@@ -23,6 +25,14 @@ pub(crate) struct LevelInLimits {
     ghost within: { LevelWithin level },
 }
 
+// A month's end, with a rate in its range, and the run that enters at it, if one does.
+#[derive(Clone, Copy)]
+pub(crate) struct MonthEnd {
+    pub(crate) posting: Posting,
+    pub(crate) entering: Option<EnteringRun>,
+    ghost ranged: { Ranged Electric MonthEndKind posting },
+}
+
 impl LevelInLimits {
     // A bill's line, and the level with each run's part of it taken from its due cents: run 2's part is the line less run 1's.
     pub(crate) fn billed(self, posting: Posting) -> (Cents, Level)
@@ -30,9 +40,10 @@ impl LevelInLimits {
         ensures { result ≡ (cents (level_line posting.second self.level), billed_level posting.second self.level) }
     {
         let level = self.level;
-        let both = level.first.factor.0 as i64 + level.second.factor.0 as i64;
+        let factor = i64::from(level.first.factor.0);
+        let both = factor + i64::from(level.second.factor.0);
         let line = to_cents(posting.second * both);
-        let first = to_cents(posting.second * (level.first.factor.0 as i64));
+        let first = to_cents(posting.second * factor);
         let second = Cents(line.0 - first.0);
         (
             line,
@@ -65,33 +76,31 @@ impl LevelInLimits {
     }
 
     // A month's interest on the balance that bears it.
-    fn interest(self, posting: Posting) -> Cents
-        requires { Ranged Book.Electric Kind.MonthEnd posting }
-        ensures { result ≡ cents (interest_on posting.first (bearing_of self.level)) }
+    fn interest(self, month_end: MonthEnd) -> Cents
+        ensures { result ≡ cents (interest_on month_end.posting.first (bearing_of self.level)) }
     {
         let level = self.level;
         let balance = level.carried.0
             + level.pending.due.0
             + level.first.due.0
             + level.second.due.0;
-        Cents(rounding::round_div(posting.first * balance, MONTHLY))
+        Cents(rounding::round_div(month_end.posting.first * balance, MONTHLY))
     }
 
     // A month's interest, and the level at the month's end: that interest accrued, then the handover.
-    pub(crate) fn ended(self, posting: Posting, entering: Option<EnteringRun>) -> (Cents, Level)
-        requires { Ranged Book.Electric Kind.MonthEnd posting }
-        ensures { result ≡ (cents (interest_on posting.first (bearing_of self.level)), handed_over entering (accrued_level posting.first self.level)) }
+    pub(crate) fn ended(self, month_end: MonthEnd) -> (Cents, Level)
+        ensures { result ≡ (cents (interest_on month_end.posting.first (bearing_of self.level)), handed_over month_end.entering (accrued_level month_end.posting.first self.level)) }
     {
-        let interest = self.interest(posting);
+        let interest = self.interest(month_end);
         let accrued = Level {
             interest: Cents(self.level.interest.0 + interest.0),
             ..self.level
         };
-        (interest, handed_over(entering, accrued))
+        (interest, handed_over(month_end.entering, accrued))
     }
 }
 
-// So many points, times kWh, in whole cents.
+// So many points, times kWh, in whole cents: a name for the unit, as each call that rounds has its own.
 fn to_cents(points: i64) -> Cents
     ensures { result ≡ cents (round points (pos 100)) }
 {

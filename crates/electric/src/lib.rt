@@ -1,26 +1,35 @@
-// The electric book's call: a posting goes in with the book, an answer and the next book come back, or a refusal.
+// The electric book's call: a posting goes in with the lent book, and an answer or a refusal comes back. The book is then the next one, or with a
+// refusal as it was.
 #![tactic(auto)]
 
 ghost use Rattle.std.specs.Prelude.{◌≡◌};
-ghost use Rattle.electric_rules.specs.Refusals.{post_of};
+ghost use Rattle.riders.specs.Rules.{answered_by, left_by};
+ghost use Rattle.electric_rules.specs.Refusals.{rules};
 
 use effects::Accepted;
 use electric_rules::ElectricBook;
-use postings::{Posted, Posting};
+use postings::{Answer, Posting};
 use refusals::Refusal;
 
 mod effects;
 mod filing;
 mod levels;
 
-// What a posting gives: the answer and the next book, or the refusal.
-pub fn post(book: ElectricBook, posting: Posting) -> Result<Posted<ElectricBook>, Refusal>
-    ensures { result ≡ post_of book posting }
+// Takes a posting: its answer, with the next book in the place of this one; or its refusal, with the book as it was. In place, since
+// each move of a book that a call hands back is a copy.
+// The steam book has the same four steps: a trait for both would ask for three members, each with a contract.
+pub fn take(book: &mut ElectricBook, posting: Posting) -> Result<Answer, Refusal>
+    ensures { (result ≡ answered_by rules book.old posting) × (book.new ≡ left_by rules book.old posting) }
 {
-    let kind = electric_refusals::accepted(book, posting)?;
-    let posted = Accepted { book, posting }.effect(kind);
+    let kind = electric_refusals::accepted(*book, posting)?;
+    let posted = Accepted {
+        book: *book,
+        posting,
+    }
+    .effect(kind);
     if !electric_refusals::limits::in_limits(posted.book) {
         return Err(Refusal::NextOutOfLimits);
     }
-    Ok(posted)
+    *book = posted.book;
+    Ok(posted.answer)
 }

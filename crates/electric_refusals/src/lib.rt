@@ -26,12 +26,13 @@ fn sold_nothing(kind: Kind, book: ElectricBook) -> bool
     }
 }
 
-// The kind of a posting that no row refuses, or the refusal of the first row that does.
-#[tactic(auto, unfolding(refusals::specs::Rows::refusal_by, refusals::specs::Rows::by_table, refusals::specs::Rows::before, refusals::specs::Rows::number_of))]
+// The kind of a posting that no row refuses, or the refusal of the first row that does. A table reads row by row: a part of it that both books
+// share would stand elsewhere.
+#[tactic(auto, unfolding(refusals::specs::Rows::refusal_by, refusals::specs::Rows::by_table, refusals::specs::Rows::before, refusals::specs::Rows::number_of), using(refusals::proofs::TableLaws::row_accepts))]
 pub fn accepted(book: ElectricBook, posting: Posting) -> Result<Kind, Refusal>
     ensures { result ≡ by_table (before Refusal.NextOutOfLimits (rows_of book posting)) (Ok (kind_of posting.kind)) Err }
 {
-    let kind = Kind::from(posting.kind);
+    let kind = posting.kind();
     refuse_if(
         postings::unknown_kind(Book::Electric, posting),
         Refusal::UnknownKind,

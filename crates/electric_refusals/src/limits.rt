@@ -2,6 +2,7 @@
 ghost use Rattle.std.specs.Prelude.{◌≡◌};
 ghost use Rattle.electric_rules.specs.Limits.{dates_in_limits, in_limits};
 
+use amounts::Stored;
 use electric_rules::ElectricBook;
 
 fn dates_in_limits(book: ElectricBook) -> bool

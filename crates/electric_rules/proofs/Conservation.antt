@@ -21,7 +21,7 @@ use Rattle.postings.specs.declared.Answer.{Answer}
 use Rattle.riders.specs.Months.{month_in_limits, forbidden}
 use Rattle.riders.specs.Rules.{left_by, answered_by, by_rules}
 use Rattle.riders.specs.Histories.{line_answered, entry_of, kept_after}
-use Rattle.electric_rules.proofs.Waiting.{clear, settle_clear, month_turns}
+use Rattle.electric_rules.proofs.Waiting.{months_turn}
 use Rattle.electric_rules.proofs.Shares.{Shared, settled_shared}
 use Rattle.electric_rules.proofs.LevelSteps.{LevelKept, billed_keeps, adjusted_keeps, settled_keeps, ended_keeps}
 use Rattle.electric_rules.specs.declared.Rates.{Rates}
@@ -44,7 +44,7 @@ use Rattle.riders.specs.Sharing as sharing
 
 -- nothing can be pending
 abbrev clear_in : ElectricBook → Bool
-clear_in b = clear b.month b.settled
+clear_in b = waiting.clear settles entering b.month b.settled
 
 -- what book and tally share
 record Kept (rates : Rates) (b : ElectricBook) (t : Tally) : Type 0 where
@@ -118,7 +118,7 @@ module _ (rates : Rates) (b : ElectricBook) (t : Tally) (p : Posting) (k : Kept 
   settle_keeps : forbidden Settle (settles b.month) b.settled ≡ false → Keeps Settle
   unfolding settle_counted share_counted waiting.clear
   settle_keeps allowed =
-      let nothing = settle_clear b.month b.settled allowed in
+      let nothing = waiting.settle_clear settles entering b.month b.settled allowed in
       record {
         division = k.division;
         period = λ i. period_of (pos 0) (sales_of (pos 0) (pos 0)) (remainder_after (k.division i) (k.period i));
@@ -133,7 +133,7 @@ module _ (rates : Rates) (b : ElectricBook) (t : Tally) (p : Posting) (k : Kept 
   month_keeps : not (in_limits b) ≡ false → forbidden MonthEnd (settles b.month) b.settled ≡ false → Keeps MonthEnd
   unfolding interest_counted
   month_keeps limits allowed =
-      let turn = month_turns b.month b.settled (dates limits) allowed in
+      let turn = waiting.month_turns settles entering months_turn b.month b.settled (dates limits) allowed in
       record {
         division = k.division;
         period = k.period;

@@ -18,6 +18,7 @@ use riders::Run;
 pub struct Kwh(pub i64);
 
 // What rounding left of the customers' shares, in hundred-thousandths of a cent: document 01's rem.
+// A type of its own in either book, since it counts other parts of a cent.
 #[repr(C)]
 #[derive(Clone, Copy, Debug, PartialEq, Eq)]
 pub struct Remainder(pub i64);
@@ -50,7 +51,7 @@ pub struct Period {
     pub remainder: Remainder,
 }
 
-// A division's book: the open period and both levels.
+// A division's book: the open period and both levels. The division is a number and no enum: a host may hand in any, which 6 refuses.
 #[repr(C)]
 #[derive(Clone, Copy, Debug, PartialEq, Eq)]
 pub struct ElectricBook {
@@ -80,20 +81,18 @@ pub enum EnteringRun {
     Second,
 }
 
-impl Kwh {
-    // Whether a book may store the sales.
-    fn in_limits(self) -> bool
-        ensures { result ≡ kwh_in_limits self }
-    {
+impl Stored for Kwh {
+    ghost within = { kwh_in_limits };
+
+    fn in_limits(self) -> bool {
         ints::in_range(self.0, 0, ElectricBook::MOST_KWH)
     }
 }
 
-impl Remainder {
-    // Whether a book may store the remainder.
-    fn in_limits(self) -> bool
-        ensures { result ≡ remainder_in_limits self }
-    {
+impl Stored for Remainder {
+    ghost within = { remainder_in_limits };
+
+    fn in_limits(self) -> bool {
         ints::in_range(
             self.0,
             -ElectricBook::MOST_REMAINDER,
@@ -102,11 +101,10 @@ impl Remainder {
     }
 }
 
-impl Period {
-    // Whether a book may store the period.
-    pub fn in_limits(self) -> bool
-        ensures { result ≡ period_in_limits self }
-    {
+impl Stored for Period {
+    ghost within = { period_in_limits };
+
+    fn in_limits(self) -> bool {
         self.cost.in_limits()
             & (self.sales.secondary.in_limits()
                 & (self.sales.primary.in_limits() & self.remainder.in_limits()))
@@ -150,7 +148,8 @@ impl ElectricBook {
     // The most that the remainder is above or below 0.
     pub const MOST_REMAINDER: i64 = 50_000;
 
-    // The fresh book of a division, 0 L&P or 1 MPS. Any other is out of range.
+    // The fresh book of a division, 0 L&P or 1 MPS. Any other is out of range: a number, since a host or a journal hands in any.
+    #[tactic(auto, unfolding(crate::specs::Book::opened_of, refusals::specs::Rows::by_table, refusals::specs::Rows::refusal_by))]
     pub fn open(division: u8) -> Result<ElectricBook, Refusal>
         ensures { result ≡ opened_of division }
     {
@@ -167,7 +166,8 @@ impl ElectricBook {
         ElectricBook::open(division).unwrap_or(ElectricBook::fresh(0))
     }
 
-    // The level that a bill or an adjustment names: 0 secondary, 1 primary.
+    // The level that a bill or an adjustment names: 0 secondary, any other primary.
+    // No enum: it is a posting's number, and the definitions take any.
     pub fn level(self, named: i64) -> Level
         ensures { result ≡ level_at named self }
     {
@@ -178,7 +178,7 @@ impl ElectricBook {
         }
     }
 
-    // The book with another level in the place of that one.
+    // The book with another level in the place of the one so named.
     pub fn with_level(self, named: i64, level: Level) -> ElectricBook
         ensures { result ≡ with_level_at named self level }
     {
@@ -216,16 +216,17 @@ impl ElectricBook {
     }
 }
 
-impl Level {
-    // Whether a book may store the level.
-    pub fn in_limits(self) -> bool
-        ensures { result ≡ level_in_limits self }
-    {
+impl Stored for Level {
+    ghost within = { level_in_limits };
+
+    fn in_limits(self) -> bool {
         self.carried.in_limits()
             & (self.interest.in_limits()
                 & (self.pending.in_limits() & (self.first.in_limits() & self.second.in_limits())))
     }
+}
 
+impl Level {
     fn fresh() -> Level
         ensures { result ≡ fresh_level }
     {

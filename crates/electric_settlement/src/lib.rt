@@ -5,7 +5,7 @@ ghost use Rattle.std.specs.Prelude.{◌≡◌};
 ghost use Rattle.electric_rules.specs.Rates.{rates_of};
 ghost use Rattle.electric_settlement.specs.Shares.{shares_or0};
 
-use amounts::Cents;
+use amounts::{Cents, Stored};
 use electric_rules::{Period, Rates, Remainder};
 use settling::Settling;
 
@@ -19,7 +19,7 @@ pub struct Shares {
     pub remainder: Remainder,
 }
 
-// The rates of a division: L&P's of 0, MPS's of any other.
+// The rates of a division by the book's number of it, as a host's struct has it: L&P's of 0, MPS's of any other.
 pub fn rates_of(division: u8) -> Rates
     ensures { result ≡ rates_of division }
 {
@@ -40,6 +40,7 @@ pub fn rates_of(division: u8) -> Rates
 }
 
 // What a settlement works out, for any rates and period: nothing is shared where a rate or an amount is out of range.
+// No Option: a public call asks for nothing, and its caller has shown the limits, so that it would never meet a None.
 pub fn shares_of(rates: Rates, period: Period) -> Shares
     ensures { result ≡ shares_or0 rates period }
 {

@@ -66,7 +66,7 @@ impl Settling {
     }
 }
 
-// The whole cents next to so many parts of a cent.
+// The whole cents next to so many parts of a cent: a name for the remainder's unit, where a bill has points.
 fn whole_cents(parts: Remainder) -> Cents
     ensures { result ≡ cents (round parts.0 (pos 100000)) }
 {

@@ -1,15 +1,15 @@
 // The electric book for a host: a book goes in by value, and comes back with the reply.
-ghost use Rattle.std.specs.Prelude.{◌≡◌, Ok, Err};
-ghost use Rattle.postings.specs.declared.Answer.TheVariants.{Done};
+ghost use Rattle.std.specs.Prelude.{◌≡◌};
 ghost use Rattle.electric_rules.specs.Refusals.{post_of};
-ghost use Rattle.host.specs.Replies.{electric_reply, electric_reply_of, electric_opened};
+ghost use Rattle.host.specs.Replies.{filed_levels_in, interest_in, electric_reply, electric_reply_of, electric_opened};
 
+use crate::results;
 use amounts::{Cents, Points};
 use electric_rules::ElectricBook;
-use postings::{Answer, Posted, Posting};
+use postings::{Answer, Posting};
 use refusals::Refusal;
 
-// Cents of either level.
+// Cents of either level; points have a struct of their own, since C has no generics.
 #[repr(C)]
 #[derive(Clone, Copy)]
 pub struct LevelCents {
@@ -36,45 +36,43 @@ pub struct ElectricReply {
     pub book: ElectricBook,
 }
 
-// Nothing refused and nothing to say.
-fn done(book: ElectricBook) -> ElectricReply
-    ensures { result ≡ electric_reply_of (Ok Done) book }
+// The factors of a settlement.
+fn filed_levels_in(answer: Result<Answer, Refusal>) -> LevelPoints
+    ensures { result ≡ filed_levels_in answer }
 {
-    ElectricReply {
-        number: 0,
-        filed: LevelPoints {
+    match answer {
+        Ok(Answer::FiledLevels(secondary, primary)) => LevelPoints { secondary, primary },
+        _ => LevelPoints {
             secondary: Points(0),
             primary: Points(0),
         },
-        line: Cents(0),
-        interest: LevelCents {
+    }
+}
+
+// The interest of a month's end.
+fn interest_in(answer: Result<Answer, Refusal>) -> LevelCents
+    ensures { result ≡ interest_in answer }
+{
+    match answer {
+        Ok(Answer::Interest(secondary, primary)) => LevelCents { secondary, primary },
+        _ => LevelCents {
             secondary: Cents(0),
             primary: Cents(0),
         },
-        book,
     }
 }
 
-// A refusal, with the book that is handed back.
-fn refused(refusal: Refusal, book: ElectricBook) -> ElectricReply
-    ensures { result ≡ electric_reply_of (Err refusal) book }
+// What a host is handed for an answer or a refusal, and the book that is left. The book is lent, since each move of it is a copy.
+fn reply(answer: Result<Answer, Refusal>, left: &ElectricBook) -> ElectricReply
+    ensures { result ≡ electric_reply_of answer left.now }
 {
-    let mut reply = done(book);
-    reply.number = refusal.number();
-    reply
-}
-
-fn answered(posted: Posted<ElectricBook>) -> ElectricReply
-    ensures { result ≡ electric_reply_of (Ok posted.answer) posted.book }
-{
-    let mut reply = done(posted.book);
-    match posted.answer {
-        Answer::Line(line) => reply.line = line,
-        Answer::FiledLevels(secondary, primary) => reply.filed = LevelPoints { secondary, primary },
-        Answer::Interest(secondary, primary) => reply.interest = LevelCents { secondary, primary },
-        Answer::Filed(_) | Answer::Done => {}
+    ElectricReply {
+        number: results::number_in(answer),
+        filed: filed_levels_in(answer),
+        line: results::line_in(answer),
+        interest: interest_in(answer),
+        book: *left,
     }
-    reply
 }
 
 // The fresh electric book of a division, 0 L&P or 1 MPS. Any other is refusal 7, with L&P's book.
@@ -82,19 +80,16 @@ fn answered(posted: Posted<ElectricBook>) -> ElectricReply
 pub extern "C" fn neapscroll_electric_open(division: u8) -> ElectricReply
     ensures { result ≡ electric_opened division }
 {
-    match ElectricBook::open(division) {
-        Ok(book) => done(book),
-        Err(refusal) => refused(refusal, ElectricBook::handed_back(division)),
-    }
+    let answer = ElectricBook::open(division).map(|_| Answer::Done);
+    reply(answer, &ElectricBook::handed_back(division))
 }
 
-// What a posting gives: the answer and the next book, or a refusal's number and the book as it was.
+// What a posting gives: the answer and the next book, or a refusal's number and the book as it was. A call a book, since C has no generics.
 #[unsafe(no_mangle)]
 pub extern "C" fn neapscroll_electric_post(book: ElectricBook, posting: Posting) -> ElectricReply
     ensures { result ≡ electric_reply book (post_of book posting) }
 {
-    match electric::post(book, posting) {
-        Ok(posted) => answered(posted),
-        Err(refusal) => refused(refusal, book),
-    }
+    let mut left = book;
+    let answer = electric::take(&mut left, posting);
+    reply(answer, &left)
 }

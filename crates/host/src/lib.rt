@@ -35,7 +35,7 @@ pub extern "C" fn neapscroll_weight(secondary: i64, primary: i64) -> i64
     rounding::weight(secondary, primary)
 }
 
-// Writes cents as text.
+// Writes cents as text. A call a type, here and in a reply, since C has no generics.
 #[unsafe(no_mangle)]
 pub extern "C" fn neapscroll_write_cents(cents: Cents, buffer: &mut [u8]) -> Written
     ensures { (result ≡ written_as (text_written (cents_text cents) buffer.old)) × (buffer.new ≡ text_left (cents_text cents) buffer.old) }
@@ -58,7 +58,7 @@ fn book_of(steam: bool) -> Book
     if steam { Book::Steam } else { Book::Electric }
 }
 
-// Reads the record at a place, of the steam book or of the electric one.
+// Reads the record at a place, of the steam book or of the electric one. C keeps the place between two calls.
 #[unsafe(no_mangle)]
 pub extern "C" fn neapscroll_read_record(steam: bool, bytes: &[u8], place: usize) -> Read
     ensures { result ≡ read_at place (read_of (book_of steam) bytes.now place) }

@@ -1,10 +1,33 @@
 // What a host is handed in place of a result, since C has none: a number, 0 where nothing was refused, and the values beside it.
 ghost use Rattle.std.specs.Prelude.{◌≡◌};
+ghost use Rattle.postings.specs.Answers.{answer_number};
+ghost use Rattle.host.specs.Replies.{line_in};
 ghost use Rattle.host.specs.Results.{read_at, written_as};
 
-use postings::Posting;
+use amounts::Cents;
+use postings::{Answer, Posting};
 use records::Found;
 use refusals::Refusal;
+
+// 0 where nothing was refused, or document 01's number of the refusal.
+pub(crate) fn number_in(answer: Result<Answer, Refusal>) -> u8
+    ensures { result ≡ answer_number answer }
+{
+    match answer {
+        Ok(_) => 0,
+        Err(refusal) => refusal.number(),
+    }
+}
+
+// The line of a bill; no cents where another posting was answered, or none was.
+pub(crate) fn line_in(answer: Result<Answer, Refusal>) -> Cents
+    ensures { result ≡ line_in answer }
+{
+    match answer {
+        Ok(Answer::Line(line)) => line,
+        _ => Cents(0),
+    }
+}
 
 // 0 and how many bytes a writer wrote, or document 01's number of the refusal and 0.
 #[repr(C)]

@@ -1,17 +1,18 @@
 // The steam book for a host: a book goes in by value, and comes back with the reply.
-ghost use Rattle.std.specs.Prelude.{◌≡◌, [], ◌∷◌, Ok, Err};
-ghost use Rattle.postings.specs.declared.Answer.TheVariants.{Done};
+ghost use Rattle.std.specs.Prelude.{◌≡◌, [], ◌∷◌};
 ghost use Rattle.steam_rules.specs.Book.{mmbtu};
 ghost use Rattle.steam_rules.specs.Refusals.{post_of};
-ghost use Rattle.host.specs.Replies.{steam_reply, steam_reply_of, steam_opened};
+ghost use Rattle.host.specs.Replies.{filed_in, steam_reply, steam_reply_of, steam_opened};
 
+use crate::results;
 use amounts::{Cents, Points};
-use postings::{Answer, Posted, Posting};
+use postings::{Answer, Posting};
 use refusals::Refusal;
 use steam_rules::{Mmbtu, SteamBook};
 
 // The refusal's number, or 0 and what the posting is answered with, 0 where a field does not apply; and the book after it. No bytes lie
-// unused right before the book, since it would then be copied twice.
+// unused right before the book, since it would then be copied into the reply
+// twice.
 #[repr(C)]
 #[derive(Clone, Copy)]
 pub struct SteamReply {
@@ -21,37 +22,26 @@ pub struct SteamReply {
     pub book: SteamBook,
 }
 
-// Nothing refused and nothing to say.
-fn done(book: SteamBook) -> SteamReply
-    ensures { result ≡ steam_reply_of (Ok Done) book }
+// The factor of a settlement.
+fn filed_in(answer: Result<Answer, Refusal>) -> Points
+    ensures { result ≡ filed_in answer }
+{
+    match answer {
+        Ok(Answer::Filed(factor)) => factor,
+        _ => Points(0),
+    }
+}
+
+// What a host is handed for an answer or a refusal, and the book that is left. The book is lent, since each move of it is a copy.
+fn reply(answer: Result<Answer, Refusal>, left: &SteamBook) -> SteamReply
+    ensures { result ≡ steam_reply_of answer left.now }
 {
     SteamReply {
-        number: 0,
-        filed: Points(0),
-        line: Cents(0),
-        book,
+        number: results::number_in(answer),
+        filed: filed_in(answer),
+        line: results::line_in(answer),
+        book: *left,
     }
-}
-
-// A refusal, with the book that is handed back.
-fn refused(refusal: Refusal, book: SteamBook) -> SteamReply
-    ensures { result ≡ steam_reply_of (Err refusal) book }
-{
-    let mut reply = done(book);
-    reply.number = refusal.number();
-    reply
-}
-
-fn answered(posted: Posted<SteamBook>) -> SteamReply
-    ensures { result ≡ steam_reply_of (Ok posted.answer) posted.book }
-{
-    let mut reply = done(posted.book);
-    match posted.answer {
-        Answer::Line(line) => reply.line = line,
-        Answer::Filed(factor) => reply.filed = factor,
-        Answer::FiledLevels(_, _) | Answer::Interest(_, _) | Answer::Done => {}
-    }
-    reply
 }
 
 // The fresh steam book after the sales of four quarters in million BTU, oldest first. One out of range is refusal 7, with the book after
@@ -66,19 +56,16 @@ pub extern "C" fn neapscroll_steam_open(
     ensures { result ≡ steam_opened (mmbtu first ∷ mmbtu second ∷ mmbtu third ∷ mmbtu fourth ∷ []) }
 {
     let quarters = [Mmbtu(first), Mmbtu(second), Mmbtu(third), Mmbtu(fourth)];
-    match SteamBook::open(quarters) {
-        Ok(book) => done(book),
-        Err(refusal) => refused(refusal, SteamBook::handed_back(quarters)),
-    }
+    let answer = SteamBook::open(quarters).map(|_| Answer::Done);
+    reply(answer, &SteamBook::handed_back(quarters))
 }
 
-// What a posting gives: the answer and the next book, or a refusal's number and the book as it was.
+// What a posting gives: the answer and the next book, or a refusal's number and the book as it was. A call a book, since C has no generics.
 #[unsafe(no_mangle)]
 pub extern "C" fn neapscroll_steam_post(book: SteamBook, posting: Posting) -> SteamReply
     ensures { result ≡ steam_reply book (post_of book posting) }
 {
-    match steam::post(book, posting) {
-        Ok(posted) => answered(posted),
-        Err(refusal) => refused(refusal, book),
-    }
+    let mut left = book;
+    let answer = steam::take(&mut left, posting);
+    reply(answer, &left)
 }

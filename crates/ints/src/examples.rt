@@ -34,7 +34,7 @@ fn doubled(money: Money, rate: Rate) -> i64
     scaled(Money(2 * money.0), rate).0 - 7
 }
 
-// A narrower type.
+// A narrower type, and below an unsigned one, by `as`: std's `from` takes no number that only a range makes fit.
 fn narrowed(x: i64) -> i32
     requires { Within 99999 x }
     ensures { result ≡ x }

@@ -8,8 +8,9 @@ ghost use Rattle.ints.specs.Range.{in_range};
 mod examples;
 
 // Whether low <= x <= high.
+#[tactic(auto, unfolding(crate::specs::Range::in_range))]
 pub fn in_range(x: i64, low: i64, high: i64) -> bool
     ensures { result ≡ in_range low high x }
 {
-    (low <= x) & (x <= high)
+    (low..=high).contains(&x)
 }

@@ -12,13 +12,9 @@ use Rattle.postings.specs.BitMaps.{bits_from}
 use Rattle.riders.specs.Rules.{answered_by, left_by}
 use Rattle.riders.specs.Lines.{line_of, part_of}
 use Rattle.riders.specs.Runs.{run_in_limits}
-use Rattle.riders.specs.Months.{month_in_limits, forbidden}
+use Rattle.riders.specs.Months.{month_in_limits}
 use Rattle.electric_rules.specs.Book.{opened_of}
-use Rattle.electric_rules.specs.Calendar.{settles}
-use Rattle.electric_rules.specs.Levels.{level_line, billed_level}
-use Rattle.electric_rules.specs.Next.{cost_posted, bill_posted, line_answer, next_at, answer_at}
-use Rattle.electric_rules.specs.Limits.{kwh_in_limits, remainder_in_limits, level_in_limits, period_in_limits, dates_in_limits, in_limits}
-use Rattle.electric_rules.specs.Refusals.{nothing_sold}
+use Rattle.electric_rules.specs.Levels.{level_line}
 use Rattle.records.specs.Fields.{twos_complement, field_of}
 use Rattle.records.specs.Records.{record_length, fields_at, zero_present, read_of}
 use Rattle.journal.specs.Journal.{lines_from, electric_lines, bad_division, journal_of}

@@ -4,7 +4,7 @@ use mathlib.Core.Bool.{Bool, true, false, cond, ◌||◌, true≢false}
 use mathlib.Core.List.{List, [], ◌∷◌}
 use Prim.Native.Nat.{ℕ, ◌+◌, ◌*◌, ◌<◌, ◌≤◌}
 use native.Mathlib.Omega.{arith}
-use lib.Dec.{eqb, ltb}
+use lib.Dec.{ltb}
 use lib.ListN.{length}
 use borrow.Author.Tests.{eqb-false, ltb-false, lt-ltb, le-ltb, eq-eqb, ne_eqb}
 use Rattle.std.specs.Prelude.{Some, Result, Ok, Err, is_err}
@@ -22,14 +22,16 @@ use Rattle.steam_rules.specs.Book.{mmbtu, four}
 use Rattle.electric_rules.specs.declared.ElectricBook.{ElectricBook}
 use Rattle.journal.specs.Lines.{opening_refused}
 use Rattle.journal.specs.Journal.{journal_rows, journal_of, opens_steam, bad_opening, bad_quarters, bad_division, first_byte, quarters_in, steam_lines, electric_lines, steam_run, electric_run, room_of}
-use Rattle.journal.specs.Steps.{opened_book, opened_by}
+use Rattle.journal.specs.Steps.{opened_book, opened_by, Prints}
+use Rattle.journal.specs.declared.page.Page.{Page}
+use Rattle.journal.proofs.Storing.{prints_as}
 use Rattle.journal.specs.declared.opening.FreshBook.{FreshBook}
 use Rattle.journal.specs.declared.opening.FreshBook.TheVariants.{Electric, Steam}
 use Rattle.electric_rules.specs.Book as electric
 use Rattle.steam_rules.specs.Opening as steam
 use Rattle.steam_rules.specs.Book as steam_book
 
-pub room_some : (n : ℕ) → 82 ≤ room_of n
+room_some : (n : ℕ) → 82 ≤ room_of n
 unfolding room_of
 room_some n = go (ltb 65536 n)
   where
@@ -37,7 +39,7 @@ room_some n = go (ltb 65536 n)
     go true = omega arith
     go false = omega arith
 
-pub room_within : (n : ℕ) → n ≤ 65536 → room_of n ≡ 41 * n + 82
+room_within : (n : ℕ) → n ≤ 65536 → room_of n ≡ 41 * n + 82
 unfolding room_of
 room_within n h = simp (le-ltb 65536 n h)
 
@@ -49,7 +51,7 @@ printed bytes (Ok (Electric fresh)) = electric_lines fresh bytes 1
 printed bytes (Ok (Steam fresh)) = steam_lines fresh bytes 33
 printed bytes (Err refusal) = opening_refused refusal
 
-pub journal_opened : (bytes : List ℕ) {opened : Result FreshBook Refusal} → opened ≡ opened_by bytes → printed bytes opened ≡ journal_of bytes
+journal_opened : (bytes : List ℕ) {opened : Result FreshBook Refusal} → opened ≡ opened_by bytes → printed bytes opened ≡ journal_of bytes
 unfolding journal_of opened_by
 journal_opened bytes e =
     ap (printed bytes) e ∙ gives_of (journal_rows bytes) (Ok (opened_book bytes)) Err (printed bytes)
@@ -142,7 +144,10 @@ module _ (bytes : List ℕ) where
             ∙ ap (λ (t : Bool). Ok (cond t (Steam (steam.handed_back (quarters_in bytes))) (Electric (electric.handed_back (first_byte bytes))))) (sym (ne_eqb (first_byte bytes) 2 other))
             ∙ good (ap (λ (t : Bool). cond t (bad_quarters bytes) (bad_division bytes)) (ne_eqb (first_byte bytes) 2 other) ∙ ap is_err e)
 
--- ---- what an opened book tells of the input
+-- by these the check finds most of what `opened` has to show
+pub ruleset openings = (too_long, empty, cut_short, steam_opens, electric_opens, quarters_given, quarters_refused)
+
+-- ---- what an opened book tells of the input, and of its journal
 
 -- where the records begin
 abbrev pub start_of : FreshBook → ℕ
@@ -166,3 +171,15 @@ opened_there bytes {book} e =
         start_of (cond t (Steam (steam.handed_back (quarters_in bytes))) (Electric (electric.handed_back (first_byte bytes)))) ≤ length bytes
     by_byte true some bad = quarters_there (ltb (length bytes) 33) _ refl bad
     by_byte false some bad = some
+
+-- the lines of the records behind the opening are the journal, and there is room enough for them
+pub records_printed :
+    (bytes : List ℕ) {book : FreshBook} {old new : Page} → Ok book ≡ opened_by bytes →
+    Prints (printed bytes (Ok book)) (41 * length bytes + 82) old new → Prints (journal_of bytes) (room_of (length bytes)) old new
+records_printed bytes e p = prints_as p (journal_opened bytes e) (omega (arith, room_within (length bytes) (opened_there bytes e).1))
+
+-- likewise what is printed for none
+pub refusal_printed :
+    (bytes : List ℕ) {refusal : Refusal} {old new : Page} → Err refusal ≡ opened_by bytes →
+    Prints (opening_refused refusal) 82 old new → Prints (journal_of bytes) (room_of (length bytes)) old new
+refusal_printed bytes e p = prints_as p (journal_opened bytes e) (room_some (length bytes))

@@ -1,6 +1,6 @@
 -- The run of a journal, for any book: the lines stored so far, and those that are to come, are all its lines. Assumes nothing.
 use mathlib.Core.Path.{◌≡◌, refl, sym, ap, subst, ◌∙◌}
-use mathlib.Core.Bool.{Bool, true, false, cond}
+use mathlib.Core.Bool.{Bool, cond}
 use mathlib.Core.List.{List, [], ◌++◌, append_assoc, append-nil}
 use Prim.Native.Nat.{ℕ, zero, suc, ◌+◌, ◌*◌, ◌<◌, ◌≤◌}
 use native.Mathlib.Omega.{arith}
@@ -14,10 +14,11 @@ use Rattle.postings.specs.declared.Answer.{Answer}
 use Rattle.riders.specs.Rules.{Rules, answered_by, left_by}
 use Rattle.records.specs.declared.Found.{Found}
 use Rattle.records.specs.Records.{read_of, found_on}
-use Rattle.journal.proofs.Storing.{puts_then, puts_same}
+use Rattle.journal.proofs.Storing.{prints_nothing, prints_then, prints_as}
 use Rattle.journal.specs.Lines.{record_line}
 use Rattle.journal.specs.Journal.{lines_read, lines_from, EnoughSteps}
-use Rattle.journal.specs.Steps.{Puts}
+use Rattle.journal.specs.Steps.{Prints}
+use Rattle.journal.specs.declared.page.Page.{Page}
 
 -- a record that was read has two bytes at least, and all its bytes remain
 pub read_on : (kinds : Book) (bytes : List ℕ) (place : ℕ) {found : Found} → Ok found ≡ read_of kinds bytes place → (place + 2 ≤ found.place) × (found.place ≤ length bytes)
@@ -73,56 +74,56 @@ module _ {B : Type 0} (kinds : Book) (rules : Rules B) (bytes : List ℕ) where
   -- ---- what a turn keeps
 
   -- a record has two bytes at least, and its line 82 at most
-  pub record Kept (whole start : List ℕ) (b : B) (place number used : ℕ) (out : List ℕ) : Type 0 where
+  pub record Kept (whole : List ℕ) (start : Page) (b : B) (place number : ℕ) (page : Page) : Type 0 where
     pub before : List ℕ
     pub more : ℕ
-    pub stored : Puts before 0 start used out
+    pub stored : Prints before (41 * place) start page
     pub to_come : before ++ lines more b place number ≡ whole
     pub enough : length bytes ≤ place + more
     pub within : place ≤ length bytes
-    pub few : used ≤ 41 * place
     pub counted : number ≤ place
 
-  pub begun : (start : List ℕ) (b : B) (place : ℕ) → 1 ≤ place → place ≤ length bytes → Kept (lines (length bytes) b place 1) start b place 1 0 start
+  pub begun : (start : Page) (b : B) (place : ℕ) → 1 ≤ place → place ≤ length bytes → Kept (lines (length bytes) b place 1) start b place 1 start
   begun start b place h w =
       record {
         before = [];
         more = length bytes;
-        stored = record { counted = refl; stored = (λ q. refl) };
+        stored = prints_nothing;
         to_come = refl;
         enough = omega arith;
         within = w;
-        few = omega arith;
         counted = h;
       }
 
-  module _ {whole start : List ℕ} {b : B} {place number used : ℕ} {out : List ℕ} (k : Kept whole start b place number used out) where
+  module _ {whole : List ℕ} {start : Page} {b : B} {place number : ℕ} {page : Page} (k : Kept whole start b place number page) where
     -- no byte remains
-    pub ended : length bytes ≤ place → Puts whole 0 start used out
-    ended h = puts_same (sym (append-nil k.before) ∙ ap (λ (l : List ℕ). k.before ++ l) (sym (no_lines k.more b place number h)) ∙ k.to_come) k.stored
+    pub ended : length bytes ≤ place → Prints whole (41 * length bytes + 82) start page
+    ended h =
+        prints_as k.stored
+        (sym (append-nil k.before) ∙ ap (λ (l : List ℕ). k.before ++ l) (sym (no_lines k.more b place number h)) ∙ k.to_come)
+        (omega (arith, k.within))
 
-    module _ (h : place < length bytes) (after : ℕ) (next-out : List ℕ) where
+    module _ (h : place < length bytes) (after : Page) where
       -- a reading refusal ends the run
-      pub stopped : (refusal : Refusal) → Err refusal ≡ read_of kinds bytes place → Puts (record_line number 0 (Err refusal)) used out after next-out → Puts whole 0 start after next-out
+      pub stopped : (refusal : Refusal) → Err refusal ≡ read_of kinds bytes place → Prints (record_line number 0 (Err refusal)) 82 page after → Prints whole (41 * length bytes + 82) start after
       stopped refusal e p = go k.more refl
         where
-          go : (more : ℕ) → k.more ≡ more → Puts whole 0 start after next-out
+          go : (more : ℕ) → k.more ≡ more → Prints whole (41 * length bytes + 82) start after
           go zero q = absurd (omega (arith, k.enough))
           go (suc more) q =
-              puts_same
+              prints_as (prints_then k.stored p)
               (ap (λ (l : List ℕ). k.before ++ l) (sym (line_refused more b place number h e))
               ∙ ap (λ (m : ℕ). k.before ++ lines m b place number) (sym q) ∙ k.to_come)
-              (puts_then k.stored p)
+              (omega (arith, k.within))
 
       -- a record's line is stored, and the next book takes the next record
       pub again :
           (found : Found) → Ok found ≡ read_of kinds bytes place → (answer : Result Answer Refusal) → answer ≡ answered_by rules b found.posting →
           (next : B) → next ≡ left_by rules b found.posting →
-          Puts (record_line number found.posting.kind answer) used out after next-out → after ≤ used + 82 →
-          Kept whole start next found.place (number + 1) after next-out
-      again found e answer a next n p most = go k.more refl
+          Prints (record_line number found.posting.kind answer) 82 page after → Kept whole start next found.place (number + 1) after
+      again found e answer a next n p = go k.more refl
         where
-          go : (more : ℕ) → k.more ≡ more → Kept whole start next found.place (number + 1) after next-out
+          go : (more : ℕ) → k.more ≡ more → Kept whole start next found.place (number + 1) after
           go zero q = absurd (omega (arith, k.enough))
           go (suc more) q =
               let line = record_line number found.posting.kind answer in
@@ -130,14 +131,13 @@ module _ {B : Type 0} (kinds : Book) (rules : Rules B) (bytes : List ℕ) where
               record {
                 before = k.before ++ line;
                 more = more;
-                stored = puts_then k.stored p;
+                stored = prints_as (prints_then k.stored p) refl (omega (arith, on.0));
                 to_come =
                     append_assoc k.before line (lines more next found.place (number + 1))
                     ∙ ap (λ (l : List ℕ). k.before ++ l) (sym (line_read more b place number h e answer a next n))
                     ∙ ap (λ (m : ℕ). k.before ++ lines m b place number) (sym q) ∙ k.to_come;
                 enough = omega (arith, on.0, k.enough);
                 within = on.1;
-                few = omega (arith, on.0, k.few);
                 counted = omega (arith, on.0, k.counted);
               }
 

@@ -14,7 +14,8 @@ use Rattle.refusals.specs.declared.Refusal.TheVariants.{BufferTooShort}
 use Rattle.refusals.proofs.TableLaws.{at_row, accepted}
 use Rattle.refusals.proofs.WriterLaws.{writer_refuses, writer_accepts}
 use borrow.Author.Tests.{lt-ltb, le-ltb}
-use Rattle.journal.specs.Steps.{Puts}
+use Rattle.journal.specs.Steps.{Puts, Prints}
+use Rattle.journal.specs.declared.page.Page.{Page}
 
 -- a text that fits is left in the buffer
 stored_left : (text buffer after : List ℕ) → length text ≤ length buffer → after ≡ sets buffer 0 text → after ≡ text_left text buffer
@@ -47,7 +48,7 @@ module _ (l text part : List ℕ) (used start n : ℕ) where
           ∙ sym (sets-eq text l used h)
 
 -- one piece behind the other
-pub puts_then : {xs ys l m n : List ℕ} {used next after : ℕ} → Puts xs used l next m → Puts ys next m after n → Puts (xs ++ ys) used l after n
+puts_then : {xs ys l m n : List ℕ} {used next after : ℕ} → Puts xs used l next m → Puts ys next m after n → Puts (xs ++ ys) used l after n
 puts_then {xs} {ys} {l} {m} {n} {used} {next} {after} p q =
     let more = length-append xs ys in
     let first = p.counted in
@@ -60,13 +61,27 @@ puts_then {xs} {ys} {l} {m} {n} {used} {next} {after} p q =
         let long : length m ≡ length l = ap length e ∙ length-sets l used xs in
         q.stored (omega arith) ∙ (λ i. sets (e i) (first i) ys) ∙ sym (sets_append l used xs ys)
 
--- two pieces behind one
-pub puts_two : {xs l m n : List ℕ} (ys zs : List ℕ) {used next after : ℕ} → Puts xs used l next m → Puts (ys ++ zs) next m after n → Puts (xs ++ ys ++ zs) used l after n
-puts_two {xs} {l} {n = n} ys zs {used} {after = after} p q = subst (λ (bytes : List ℕ). Puts bytes used l after n) (sym (append_assoc xs ys zs)) (puts_then p q)
+-- ---- what a page prints
 
--- the same bytes under another name
-pub puts_same : {xs ys l m : List ℕ} {used after : ℕ} → xs ≡ ys → Puts xs used l after m → Puts ys used l after m
-puts_same {xs} {ys} {l} {m} {used} {after} e p = subst (λ (zs : List ℕ). Puts zs used l after m) e p
+pub prints_nothing : {page : Page} {most : ℕ} → Prints [] most page page
+prints_nothing = record { same_buffer = refl; puts = record { counted = omega arith; stored = λ h. refl }; short = omega arith }
+
+-- one text behind the other
+pub prints_then : {xs ys : List ℕ} {most more : ℕ} {old page new : Page} → Prints xs most old page → Prints ys more page new → Prints (xs ++ ys) (most + more) old new
+prints_then p q = record { same_buffer = q.same_buffer ∙ p.same_buffer; puts = puts_then p.puts q.puts; short = omega (arith, p.short, q.short) }
+
+-- two texts behind one
+pub prints_two : {xs : List ℕ} (ys zs : List ℕ) {most more : ℕ} {old page new : Page} → Prints xs most old page → Prints (ys ++ zs) more page new → Prints (xs ++ ys ++ zs) (most + more) old new
+prints_two {xs} ys zs {most} {more} {old} {new = new} p q = subst (λ (text : List ℕ). Prints text (most + more) old new) (sym (append_assoc xs ys zs)) (prints_then p q)
+
+-- the same text under another name, and no more bytes than these
+pub prints_as : {xs ys : List ℕ} {most more : ℕ} {old new : Page} → Prints xs most old new → xs ≡ ys → most ≤ more → Prints ys more old new
+prints_as {old = old} {new} p e h =
+    record {
+      same_buffer = p.same_buffer;
+      puts = subst (λ (text : List ℕ). Puts text old.used old.buffer.now new.used new.buffer.now) e p.puts;
+      short = omega (arith, p.short, h);
+    }
 
 -- ---- the answer of the writer of a text
 

@@ -6,6 +6,7 @@ use Rattle.refusals.specs.declared.Refusal.{Refusal}
 use Rattle.journal.specs.Journal.{journal_rows, opens_steam, quarters_in, first_byte}
 use Rattle.journal.specs.declared.opening.FreshBook.{FreshBook}
 use Rattle.journal.specs.declared.opening.FreshBook.TheVariants.{Electric, Steam}
+use Rattle.journal.specs.declared.page.Page.{Page}
 use Rattle.electric_rules.specs.Book as electric
 use Rattle.steam_rules.specs.Opening as steam
 
@@ -13,6 +14,12 @@ use Rattle.steam_rules.specs.Opening as steam
 pub record Puts (bytes : List ℕ) (used : ℕ) (entry : List ℕ) (after : ℕ) (exit : List ℕ) : Type 0 where
   pub counted : after ≡ used + length bytes
   pub stored : used + length bytes ≤ length entry → exit ≡ sets entry used bytes
+
+-- a page prints a text, by at most so many bytes more, into the buffer that it holds
+pub record Prints (text : List ℕ) (most : ℕ) (old new : Page) : Type 0 where
+  pub same_buffer : new.buffer.ghost_name ≡ old.buffer.ghost_name
+  pub puts : Puts text old.used old.buffer.now new.used new.buffer.now
+  pub short : new.used ≤ old.used + most
 
 -- the book that an input opens, or the refusal that is printed in its place
 abbrev pub opened_book : List ℕ → FreshBook

@@ -19,6 +19,7 @@ mod run;
 pub const MOST_BYTES: usize = 65_536;
 
 // Room enough for what is printed for so many bytes.
+#[tactic(auto, unfolding(crate::specs::Journal::room_of))]
 fn room_for(bytes: usize) -> usize
     ensures { result ≡ room_of bytes }
 {

@@ -22,6 +22,7 @@ fn quarters(input: &[u8]) -> Result<[Mmbtu; 4], Refusal>
     if input.len() < 33 {
         return Err(Refusal::OutOfRange);
     }
+    // By place and no iterator: a byte, and then four fields of eight, each of which the definition names.
     Ok([
         Mmbtu(records::read_field(input, 1)),
         Mmbtu(records::read_field(input, 9)),
@@ -30,6 +31,7 @@ fn quarters(input: &[u8]) -> Result<[Mmbtu; 4], Refusal>
     ])
 }
 
+#[tactic(auto, using(crate::proofs::Openings::openings))]
 pub(crate) fn opened(input: &[u8]) -> Result<FreshBook, Refusal>
     ensures { result ≡ opened_by input.now }
 {

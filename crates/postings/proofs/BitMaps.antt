@@ -1,21 +1,18 @@
 -- Laws of bit maps: a map and its bits determine each other, its ones are counted, and a bit that a kind lacks makes it too large.
 -- Assumes nothing.
 use mathlib.Core.Path.{◌≡◌, refl, sym, ap, ◌∙◌}
-use mathlib.Core.Bool.{Bool, true, false, cond, not}
+use mathlib.Core.Bool.{Bool, true, false, cond}
 use mathlib.Core.List.{List, [], ◌∷◌}
 use Prim.Native.Nat.{ℕ, zero, suc, ◌+◌, ◌*◌, ◌/◌, ◌%◌, ◌^◌, ◌<◌, ◌≤◌}
 use native.Mathlib.Omega.{arith}
 use native.Mathlib.Nat.{pow-suc, one-le-pow}
 use lib.Count.{ones, ones_step}
 use lib.Dec.{eqb, leb, leb→le}
-use lib.IntN.{pos}
 use lib.ListN.{length, drop}
 use borrow.Author.Tests.{le-leb, lt-leb, leb-true, leb-false}
 use Rattle.ints.specs.Flags.{T_false}
-use Rattle.ints.specs.Machine.{eq_z}
-use Rattle.postings.specs.Kinds.{numbers_of, standing, any_stands}
-use Rattle.postings.specs.BitMaps.{bits_from, bit_map_of, bit_of}
-use Rattle.postings.specs.declared.Posting.{Posting}
+use Rattle.postings.specs.Kinds.{any_stands}
+use Rattle.postings.specs.BitMaps.{bits_from, bit_map_of}
 
 -- how many stand
 abbrev pub count : List Bool → ℕ
@@ -94,19 +91,3 @@ beyond (suc c) (bit ∷ bits) = beyond c bits ∙ go bit
     go : (t : Bool) → leb (2 ^ c) (bit_map_of bits) ≡ leb (2 ^ suc c) (cond t 1 0 + 2 * bit_map_of bits)
     go true = leb_same (2 ^ c) (bit_map_of bits) (2 ^ suc c) (1 + 2 * bit_map_of bits) (λ h. omega (arith, pow-suc 2 c)) (λ h. omega (arith, pow-suc 2 c))
     go false = leb_same (2 ^ c) (bit_map_of bits) (2 ^ suc c) (0 + 2 * bit_map_of bits) (λ h. omega (arith, pow-suc 2 c)) (λ h. omega (arith, pow-suc 2 c))
-
--- ---- the bit map of a posting
-
-pub map_is : (p : Posting) → bit_of p.first + 2 * bit_of p.second + 4 * bit_of p.third ≡ bit_map_of (standing (numbers_of p))
-unfolding bit_of bit_map_of
-map_is p = go (eq_z p.first (pos 0)) (eq_z p.second (pos 0)) (eq_z p.third (pos 0))
-  where
-    go : (a b c : Bool) → cond a 0 1 + 2 * cond b 0 1 + 4 * cond c 0 1 ≡ bit_map_of (not a ∷ not b ∷ not c ∷ [])
-    go true true true = refl
-    go true true false = refl
-    go true false true = refl
-    go true false false = refl
-    go false true true = refl
-    go false true false = refl
-    go false false true = refl
-    go false false false = refl

@@ -1,16 +1,16 @@
 -- How many bit maps a kind of either book may have, and what that number tells. Assumes nothing.
 use mathlib.Core.Path.{◌≡◌, refl, sym, ap, ◌∙◌}
-use mathlib.Core.Bool.{Bool, true, false, not, true≢false}
+use mathlib.Core.Bool.{Bool, true, false, true≢false}
 use mathlib.Core.List.{List, []}
 use Prim.Native.Nat.{ℕ, ◌^◌, ◌<◌, ◌≤◌}
 use native.Mathlib.Omega.{arith}
-use lib.Dec.{leb}
-use lib.ListN.{length}
-use borrow.Author.Tests.{le-leb, lt-leb, leb-false}
-use Rattle.std.specs.Prelude.{Option, Some, None, is_some, is_none, option_map, IfSome}
+use lib.Dec.{leb, ltb}
+use lib.ListN.{length, drop}
+use borrow.Author.Tests.{lt-leb, leb-false}
+use Rattle.std.specs.Prelude.{Option, Some, None, is_none, option_map, IfSome}
 use Rattle.std.proofs.lemmas.Option.{none-some, same_Some}
 use Rattle.postings.proofs.BitMaps.{beyond}
-use Rattle.postings.specs.Kinds.{Field, or_none, kind_of, by_kind, table_of, fields_of, unknown_kind, stands_beyond}
+use Rattle.postings.specs.Kinds.{Field, or_none, kind_of, by_kind, table_of, fields_of, unknown_kind, any_stands, stands_beyond}
 use Rattle.postings.specs.declared.kinds.Kind.{Kind}
 use Rattle.postings.specs.declared.kinds.Kind.TheVariants.{Cost, Sales, Bill, Settle, MonthEnd, Adjust, Reconcile, Unknown}
 use Rattle.postings.specs.BitMaps.{bit_map_of, maps_of}
@@ -44,17 +44,6 @@ module _ (book : Book) (kind : ℕ) where
       go None e = absurd (none-some maps e)
       go (Some fields) e = (refl, sym (same_Some _ _ e))
 
-  -- as the test of an option answers
-  pub maps_test : (t : Bool) → is_some (maps_of book (kind_of kind)) ≡ not t → t ≡ unknown_kind book kind
-  unfolding unknown_kind
-  maps_test t = go (table_of book (kind_of kind)) t
-    where
-      go : (o : Option (List Field)) (t : Bool) → is_some (option_map (λ (fields : List Field). 2 ^ length fields) o) ≡ not t → t ≡ is_none o
-      go None true e = refl
-      go None false e = e
-      go (Some fields) true e = e
-      go (Some fields) false e = refl
-
   -- a known kind has a number of bit maps
   pub maps_known : unknown_kind book kind ≡ false → maps_of book (kind_of kind) ≡ Some (2 ^ length (fields_of book kind))
   unfolding unknown_kind fields_of
@@ -64,14 +53,16 @@ module _ (book : Book) (kind : ℕ) where
       go None e = absurd (true≢false e)
       go (Some fields) e = refl
 
+  -- an unknown kind lacks each bit
+  pub lacks_all : (bits : List Bool) → maps_of book (kind_of kind) ≡ None → stands_beyond (fields_of book kind) bits ≡ ltb 0 (bit_map_of bits)
+  unfolding stands_beyond
+  lacks_all bits e = ap (λ (fields : List Field). any_stands (drop (length fields) bits)) (maps_none e).1 ∙ beyond 0 bits
+
   -- a bit that the kind lacks makes a map too large
   module _ (bits : List Bool) (maps : ℕ) (known : maps_of book (kind_of kind) ≡ Some maps) where
     pub lacks : stands_beyond (fields_of book kind) bits ≡ leb maps (bit_map_of bits)
     unfolding stands_beyond
     lacks = beyond (length (fields_of book kind)) bits ∙ ap (λ (n : ℕ). leb n (bit_map_of bits)) (sym (maps_some maps known).1)
-
-    pub stands_beyond_lem : maps ≤ bit_map_of bits → stands_beyond (fields_of book kind) bits ≡ true
-    stands_beyond_lem h = lacks ∙ le-leb maps (bit_map_of bits) h
 
     pub none_beyond : bit_map_of bits < maps → stands_beyond (fields_of book kind) bits ≡ false
     none_beyond h = lacks ∙ lt-leb maps (bit_map_of bits) h

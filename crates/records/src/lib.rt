@@ -7,7 +7,7 @@ ghost use Rattle.records.specs.Records.{read_of, record_written, record_left};
 
 use postings::kinds::{self, Kind};
 use postings::{Book, Posting};
-use refusals::Refusal;
+use refusals::{Refusal, refuse_if};
 
 mod fields;
 mod parts;
@@ -19,14 +19,16 @@ pub struct Found {
     pub posting: Posting,
 }
 
-// Reads the 8 bytes at a place as a field; 0 where fewer remain.
+// Reads the 8 bytes at a place as a field; 0 where fewer remain. No Option, since the definition reads it so; a place, since the fields of an
+// opening stand by place.
+#[tactic(auto, unfolding(crate::specs::Fields::field_or0))]
 pub fn read_field(bytes: &[u8], place: usize) -> i64
     ensures { result ≡ field_or0 (drop place bytes.now) }
 {
     fields::split_field(parts::rest(bytes, place)).map_or(0, |(number, _)| number)
 }
 
-// Reads the record at a place of the bytes.
+// Reads the record at a place of the bytes. A place and no slice: the C call hands it in, and gets the next one back.
 pub fn read_record(book: Book, bytes: &[u8], place: usize) -> Result<Found, Refusal>
     ensures { result ≡ read_of book bytes.now place }
 {
@@ -35,13 +37,9 @@ pub fn read_record(book: Book, bytes: &[u8], place: usize) -> Result<Found, Refu
         return Err(Refusal::NoRecord);
     };
     let maps = kinds::maps_of(book, Kind::from(*kind)).ok_or(Refusal::UnknownKind)?;
-    if maps <= *bitmap {
-        return Err(Refusal::StrayNumber);
-    }
+    refuse_if(maps <= *bitmap, Refusal::StrayNumber)?;
     let length = parts::record_length(*bitmap);
-    if record.len() < length {
-        return Err(Refusal::RecordCutShort);
-    }
+    refuse_if(record.len() < length, Refusal::RecordCutShort)?;
     let posting = parts::posting_in(*kind, *bitmap, fields).ok_or(Refusal::ZeroPresent)?;
     Ok(Found {
         place: place + length,
@@ -49,19 +47,16 @@ pub fn read_record(book: Book, bytes: &[u8], place: usize) -> Result<Found, Refu
     })
 }
 
-// Writes the record of a posting into the buffer: how many bytes, or refusal 2, 3 or 13 with the buffer as it was.
+// Writes the record of a posting into the buffer: how many bytes, or refusal 2, 3 or 13 with the buffer as it was. Its table is its own, though
+// the reader has its first two rows.
 pub fn write_record(book: Book, posting: Posting, buffer: &mut [u8]) -> Result<usize, Refusal>
     ensures { (result ≡ record_written book posting buffer.old) × (buffer.new ≡ record_left book posting buffer.old) }
 {
-    let maps = kinds::maps_of(book, Kind::from(posting.kind)).ok_or(Refusal::UnknownKind)?;
+    let maps = kinds::maps_of(book, posting.kind()).ok_or(Refusal::UnknownKind)?;
     let bitmap = kinds::bitmap_of(posting);
-    if maps <= bitmap {
-        return Err(Refusal::StrayNumber);
-    }
+    refuse_if(maps <= bitmap, Refusal::StrayNumber)?;
     let length = parts::record_length(bitmap);
-    if buffer.len() < length {
-        return Err(Refusal::BufferTooShort);
-    }
+    refuse_if(buffer.len() < length, Refusal::BufferTooShort)?;
     parts::put_record(posting, bitmap, buffer);
     Ok(length)
 }

@@ -1,5 +1,6 @@
 -- Laws of refusal tables: the refusal is that of the first row that holds, and none means that no row holds. Assumes nothing.
 use Rattle.std.specs.Prelude.{◌≡◌, Bool, true, false, cond, List, [], ◌∷◌, ◌++◌, ℕ, Option, Some, None, Result, Ok, Err}
+use Rattle.std.specs.Result.{result_err}
 use Rattle.std.proofs.Math.Path.{refl, sym}
 use Rattle.std.proofs.Common.{ap, ◌∙◌}
 use Rattle.std.proofs.lemmas.Option.{none-some, same_Some}
@@ -111,6 +112,15 @@ module _ {A : Type 0} (rows : List Row) (asked : A) where
       go None e = cc
       go (Some other) e = cc
 
+-- what a table refuses is the refusal of its first row that holds
+pub table_refusal : {A : Type 0} (rows : List Row) (asked : A) → result_err (by_table rows (Ok asked) Err) ≡ refusal_by rows
+unfolding by_table
+table_refusal {A} rows asked = go (refusal_by rows)
+  where
+    go : (o : Option Refusal) → result_err (given_by {A = Result A Refusal} o (Ok asked) Err) ≡ o
+    go None = refl
+    go (Some refusal) = refl
+
 -- what is so of what was asked, where no row holds, and of every refusal, is so of what a call gives
 pub by_table_lem :
     {A : Type 0} (P : A → Type 0) (rows : List Row) (asked : A) (refused : Refusal → A) →
@@ -131,11 +141,18 @@ module _ {A : Type 0} (refusal : Refusal) (asked : A) (refused : Refusal → A) 
   pub row_holds : condition ≡ true → by_table (row refusal condition ∷ []) asked refused ≡ refused refusal
   row_holds e = gives_refusal (row refusal condition ∷ []) asked refused refusal (at_row refusal [] e)
 
--- a refusal that it gives is its own
-pub row_refuses : {A : Type 0} (refusal : Refusal) (asked : A) (condition : Bool) {other : Refusal} → by_table {A = Result A Refusal} (row refusal condition ∷ []) (Ok asked) Err ≡ Err other → other ≡ refusal
+-- what is accepted tells that its condition does not hold
+pub row_accepts : {A : Type 0} (refusal : Refusal) (asked : A) (condition : Bool) {given : A} → Ok given ≡ by_table {A = Result A Refusal} (row refusal condition ∷ []) (Ok asked) Err → condition ≡ false
+row_accepts refusal asked condition e = (none_holds (row refusal condition ∷ []) (table_accepts (row refusal condition ∷ []) asked e).0).0
+
+-- what is refused tells that its condition holds, and that the refusal is its own
+pub row_refused : {A : Type 0} (refusal : Refusal) (asked : A) (condition : Bool) {other : Refusal} → Err other ≡ by_table {A = Result A Refusal} (row refusal condition ∷ []) (Ok asked) Err → (condition ≡ true) × (other ≡ refusal)
 unfolding by_table refusal_by
-row_refuses refusal asked condition {other} e = go condition e
+row_refused refusal asked condition {other} e = go condition e
   where
-    go : (t : Bool) → given_by {A = Result _ Refusal} (cond t (Some refusal) None) (Ok asked) Err ≡ Err other → other ≡ refusal
-    go true h = cc
+    go : (t : Bool) → Err other ≡ given_by {A = Result _ Refusal} (cond t (Some refusal) None) (Ok asked) Err → (t ≡ true) × (other ≡ refusal)
+    go true h = (refl, cc)
     go false h = cc
+
+pub row_refuses : {A : Type 0} (refusal : Refusal) (asked : A) (condition : Bool) {other : Refusal} → by_table {A = Result A Refusal} (row refusal condition ∷ []) (Ok asked) Err ≡ Err other → other ≡ refusal
+row_refuses refusal asked condition e = (row_refused refusal asked condition (sym e)).1

@@ -1,8 +1,8 @@
 // What is refused: document 01's refusals, each with its number; in specs/ the refusal table as a type.
 #![tactic(auto)]
 
-ghost use Rattle.std.specs.Prelude.{◌≡◌, true, false, MatchResult};
-ghost use Rattle.refusals.specs.Rows.{number_of};
+ghost use Rattle.std.specs.Prelude.{◌≡◌, [], ◌∷◌, Ok, Err};
+ghost use Rattle.refusals.specs.Rows.{number_of, row, by_table};
 
 // The refusals of document 01, by their numbers.
 #[derive(Clone, Copy, Debug, PartialEq, Eq)]
@@ -36,7 +36,8 @@ pub enum Refusal {
 }
 
 impl Refusal {
-    // Document 01's number.
+    // Document 01's number, of which `from` would not say whose it is; nothing but `as` gives an enum's.
+    #[tactic(auto, unfolding(crate::specs::Rows::number_of))]
     pub fn number(self) -> u8
         ensures { result ≡ number_of self }
     {
@@ -46,8 +47,9 @@ impl Refusal {
 
 // A row of a refusal table: its refusal, where its condition holds.
 #[inline]
+#[tactic(auto, unfolding(crate::specs::Rows::refusal_by, crate::specs::Rows::by_table))]
 pub fn refuse_if(condition: bool, refusal: Refusal) -> Result<(), Refusal>
-    ensures { MatchResult result (λ _. condition ≡ false) (λ e. (condition ≡ true) × (e ≡ refusal)) }
+    ensures { result ≡ by_table (row refusal condition ∷ []) (Ok tt) Err }
 {
     if condition { Err(refusal) } else { Ok(()) }
 }

@@ -1,16 +1,23 @@
 -- What a posting gives, as the code works it out: the rows before 12, then the effect, then the limits of the next book. For any book whose
 -- table ends in row 12. Assumes nothing.
-use Rattle.std.specs.Prelude.{◌≡◌, Bool, true, false, Some, None, Ok, Err}
+use Rattle.std.specs.Prelude.{◌≡◌, refl, Bool, true, false, Option, Some, None, Result, Ok, Err}
 use Rattle.std.proofs.Math.Path.{sym}
-use Rattle.std.proofs.Common.{ap, ◌∙◌}
+use Rattle.std.proofs.Common.{ap, ◌∙◌, subst}
 use Rattle.std.proofs.Math.Bool.{not}
 use mathlib.Core.List.{[], ◌∷◌, ◌++◌}
-use Rattle.refusals.specs.Rows.{row, refusal_by, before}
+use Rattle.refusals.specs.Rows.{row, refusal_by, before, by_table, given_by}
 use Rattle.refusals.specs.declared.Refusal.{Refusal}
 use Rattle.refusals.specs.declared.Refusal.TheVariants.{NextOutOfLimits}
-use Rattle.refusals.proofs.TableLaws.{at_row, past_row, decided_earlier, decided_later, gives_asked, gives_refusal}
+use Rattle.refusals.proofs.TableLaws.{at_row, past_row, decided_earlier, decided_later, gives_asked, gives_refusal, table_accepts, table_refuses}
+use Rattle.postings.specs.Kinds.{kind_of, unknown_kind}
+use Rattle.postings.specs.Ranged.{Ranged}
+use Rattle.postings.specs.declared.kinds.Kind.{Kind}
+use Rattle.postings.specs.declared.Answer.{Answer}
+use Rattle.postings.specs.declared.Book.{Book}
+use Rattle.postings.specs.declared.Posted.{Posted}
 use Rattle.postings.specs.declared.Posting.{Posting}
-use Rattle.riders.specs.Rules.{Rules, posted, given_of}
+use Rattle.riders.specs.Posts.{StoredAs}
+use Rattle.riders.specs.Rules.{Rules, posted, answer_given, book_given, given_as, answered_by, left_by, given_of, answered_given, left_given}
 
 -- ---- by the table: a row before 12 refuses, or 12 does, or the next book is stored
 
@@ -40,3 +47,58 @@ module _ {Held : Type 0} (rules : Rules Held) (b : Held) (p : Posting) where
         pub stored : in_limits (rules.next b p) ≡ true → Ok (posted (rules.answer b p) (rules.next b p)) ≡ given_of rules b p
         unfolding refusal_by
         stored f = accepted_by (last ∙ past_row NextOutOfLimits [] (ap not f))
+
+-- ---- a posting that is taken: its answer and the book that is left, by what the code found
+
+module _ {Held : Type 0} (rules : Rules Held) (b : Held) (p : Posting) where
+  -- both are the rules' own
+  abbrev pub Taken : Result Answer Refusal → Held → Type 0
+  Taken answer left = (answer ≡ answered_by rules b p) × (left ≡ left_by rules b p)
+
+  taken : {given : Result (Posted Held) Refusal} → given ≡ given_of rules b p → Taken (answer_given given) (book_given b given)
+  taken given = (sym (answered_given rules b p given), sym (left_given rules b p given))
+
+  -- what was given is what was taken
+  pub given_taken : {answer : Result Answer Refusal} {left : Held} → Taken answer left → given_as answer left ≡ given_of rules b p
+  unfolding answered_by left_by given_of by_table
+  given_taken {answer} {left} t = ap (λ (a : Result Answer Refusal). given_as a left) t.0 ∙ ap (given_as (answered_by rules b p)) t.1 ∙ go (refusal_by (rules.rows b p))
+    where
+      go : (o : Option Refusal) → given_as (given_by o (Ok (rules.answer b p)) Err) (given_by o (rules.next b p) (λ refusal. b)) ≡ given_by o (Ok (posted (rules.answer b p) (rules.next b p))) Err
+      go None = refl
+      go (Some refusal) = refl
+
+  -- and what is said of the answer and the book taken is said of what was given
+  pub said_of_given : {Reply : Type 0} (reply : Result Answer Refusal → Held → Reply) {answer : Result Answer Refusal} {left : Held} → Taken answer left → reply answer left ≡ reply (answer_given (given_of rules b p)) (book_given b (given_of rules b p))
+  said_of_given reply {answer} {left} t = ap (λ (a : Result Answer Refusal). reply a left) (t.0 ∙ answered_given rules b p refl) ∙ ap (reply (answer_given (given_of rules b p))) (t.1 ∙ left_given rules b p refl)
+
+  module _
+      (in_limits : Held → Bool)
+      (table : rules.rows b p ≡ before NextOutOfLimits (rules.rows b p) ++ (row NextOutOfLimits (not (in_limits (rules.next b p))) ∷ []))
+    where
+      -- the kind of a posting that no row before 12 refuses, or the refusal of the first row that does
+      abbrev pub by_rows : Result Kind Refusal
+      by_rows = by_table (before NextOutOfLimits (rules.rows b p)) (Ok (kind_of p.kind)) Err
+
+      pub refused_early : {refusal : Refusal} → Err refusal ≡ by_rows → Taken (Err refusal) b
+      refused_early e = taken (refused_before rules b p in_limits table _ (table_refuses _ _ e))
+
+      module _ (kinds : Book) (shown : refusal_by (before NextOutOfLimits (rules.rows b p)) ≡ None → (in_limits b ≡ true) × Ranged kinds (kind_of p.kind) p × (unknown_kind kinds p.kind ≡ false)) {kind : Kind} (e : Ok kind ≡ by_rows) where
+        accepted : (refusal_by (before NextOutOfLimits (rules.rows b p)) ≡ None) × (kind ≡ kind_of p.kind)
+        accepted = table_accepts _ _ e
+
+        -- what the effect may rely on
+        pub found_within : in_limits b ≡ true
+        found_within = (shown accepted.0).0
+
+        pub ranged : Ranged kinds kind p
+        ranged = subst (λ (k : Kind). Ranged kinds k p) (sym accepted.1) (shown accepted.0).1
+
+        module _ (effect : Kind → Posted Held) (own : effect (kind_of p.kind) ≡ posted (rules.answer b p) (rules.next b p)) {r : Posted Held} (as_stored : StoredAs (λ (given : Posted Held). in_limits given.book) r (effect kind)) where
+          by_own : StoredAs (λ (given : Posted Held). in_limits given.book) r (posted (rules.answer b p) (rules.next b p))
+          by_own = subst (λ (given : Posted Held). StoredAs (λ (given : Posted Held). in_limits given.book) r given) (ap effect accepted.1 ∙ own) as_stored
+
+          pub refused_late : in_limits r.book ≡ false → Taken (Err NextOutOfLimits) b
+          refused_late f = taken (refused_12 rules b p in_limits table accepted.0 (sym by_own.alike ∙ f))
+
+          pub stored_in_limits : in_limits r.book ≡ true → Taken (Ok r.answer) r.book
+          stored_in_limits f = taken (ap Ok (by_own.same f) ∙ stored rules b p in_limits table accepted.0 (sym by_own.alike ∙ f))

@@ -31,6 +31,11 @@ abbrev pub book_given : {Held : Type 0} → Held → Result (Posted Held) Refusa
 book_given b (Ok given) = given.book
 book_given b (Err refusal) = b
 
+-- both together: the answer and the book after it, or the refusal alone
+abbrev pub given_as : {Held : Type 0} → Result Answer Refusal → Held → Result (Posted Held) Refusal
+given_as (Ok answer) left = Ok (posted answer left)
+given_as (Err refusal) left = Err refusal
+
 module _ {Held : Type 0} (rules : Rules Held) where
   -- what a posting is answered: the answer, or the refusal
   unfoldable pub answered_by : Held → Posting → Result Answer Refusal

@@ -1,11 +1,14 @@
-// What the riders of both books share: runs, and the months of a year.
+// What the riders of both books share: runs, the months of a year, and what is said of a posting that has no figures to answer.
 #![tactic(auto)]
 
 ghost use Rattle.std.specs.Prelude.{◌≡◌};
 ghost use Rattle.amounts.specs.Amounts.{points};
+ghost use Rattle.postings.specs.declared.Answer.TheVariants.{Done};
+ghost use Rattle.riders.specs.Rules.{posted};
 ghost use Rattle.riders.specs.Runs.{no_run, narrowed, filed_run, run_in_limits};
 
 use amounts::{Cents, Points, Stored};
+use postings::{Answer, Posted};
 
 pub mod months;
 
@@ -21,7 +24,7 @@ pub struct Run {
 }
 
 impl Run {
-    // No factor and nothing due.
+    // No factor and nothing due: a name of the rules, which `Default` would not say.
     pub fn none() -> Run
         ensures { result ≡ no_run }
     {
@@ -31,15 +34,8 @@ impl Run {
         }
     }
 
-    // Whether a book may store the run.
-    pub fn in_limits(self) -> bool
-        ensures { result ≡ run_in_limits self }
-    {
-        self.factor.in_limits() & self.due.in_limits()
-    }
-
     // What is filed for cents owed: those cents, and the factor that is to bring them in over these sales. Where a book may store the one or
-    // the other not, the run is one that it may not store either.
+    // the other not, the run is one that it may not store either. No Option: row 12 asks it of the next book, and other rows come before.
     pub fn filed(owed: Cents, sales: i64) -> Run
         ensures { result ≡ filed_run owed.0 sales }
     {
@@ -56,6 +52,15 @@ impl Run {
     }
 }
 
+impl Stored for Run {
+    ghost within = { run_in_limits };
+
+    #[tactic(auto, unfolding(crate::specs::Runs::run_in_limits))]
+    fn in_limits(self) -> bool {
+        self.factor.in_limits() & self.due.in_limits()
+    }
+}
+
 // A factor before it is known to be one that a book may store.
 #[derive(Clone, Copy)]
 struct Quotient(i64);
@@ -65,9 +70,20 @@ impl Quotient {
     fn factor(self) -> Points
         ensures { result ≡ points (narrowed self.0) }
     {
-        if ints::in_range(self.0, Points::LEAST as i64, Points::MOST as i64) {
-            return Points(self.0 as i32);
+        let factor = Points(i32::try_from(self.0).unwrap_or(BEYOND));
+        if factor.in_limits() {
+            return factor;
         }
         Points(BEYOND)
+    }
+}
+
+// A posting that is answered "done", and the book after it.
+pub fn done<B: Copy>(book: B) -> Posted<B>
+    ensures { result ≡ posted Done book }
+{
+    Posted {
+        answer: Answer::Done,
+        book,
     }
 }

@@ -24,7 +24,7 @@ pub fn in_limits(month: u8, settles: bool, settled: bool) -> bool
 pub fn is_forbidden(posting: Posting, settles: bool, settled: bool) -> bool
     ensures { result ≡ forbidden (kind_of posting.kind) settles settled }
 {
-    match Kind::from(posting.kind) {
+    match posting.kind() {
         Kind::Cost | Kind::Sales => settled,
         Kind::Settle => settled | !settles,
         Kind::MonthEnd => settles & !settled,

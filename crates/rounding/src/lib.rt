@@ -41,6 +41,7 @@ fn nearest(n: u64, b: u64) -> u64
 }
 
 // n with the sign of a, where a is no smaller: also for the least number, whose size does not fit.
+// By `as` here and in `weight`: it has to fit, where `cast_signed` would wrap.
 fn with_sign(a: i64, n: u64) -> i64
     requires { n ≤ nat_abs a }
     ensures { result ≡ with_sign a n }
@@ -51,7 +52,7 @@ fn with_sign(a: i64, n: u64) -> i64
     n as i64
 }
 
-// round(a/b), for every a and every b: a divisor below 1 gives 0.
+// round(a/b), for every a and every b: a divisor below 1 gives 0, and no Option, since the C call hands out a number.
 pub fn round_div(a: i64, b: i64) -> i64
     ensures { result ≡ round a b }
 {
@@ -75,7 +76,7 @@ fn share(part: u64, whole: u64) -> u64
     )
 }
 
-// The secondary level's weight, w = round(100000 × Ws / (Ws + Wp)); 0 where either is below 0 or above WEIGHED.
+// The secondary level's weight, w = round(100000 × Ws / (Ws + Wp)); 0, for C as above, where either is below 0 or above WEIGHED.
 pub fn weight(secondary: i64, primary: i64) -> i64
     ensures { result ≡ weight_or0 secondary primary }
 {

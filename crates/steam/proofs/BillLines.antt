@@ -15,9 +15,10 @@ use Rattle.amounts.specs.declared.Points.{Points}
 use Rattle.riders.specs.Lines.{together, line_of, part_of, no_line}
 use Rattle.steam_rules.specs.declared.SteamBook.{SteamBook}
 use Rattle.steam_rules.specs.Next.{factors_of, dues_less}
-use Rattle.steam_rules.specs.Fours.{Four, as_four, at}
-use Rattle.steam_rules.specs.Ranges.{PointsWithin, BookWithin}
+use Rattle.steam_rules.specs.Fours.{Four, as_four, at, one_by_one}
+use Rattle.steam_rules.specs.Ranges.{PointsWithin, CentsWithin, BookWithin}
 use Rattle.steam.specs.declared.bills.Factors.{Factors}
+use Rattle.steam.specs.declared.bills.Billed.{Billed}
 use Rattle.steam.specs.declared.bills.UpTo.{UpTo}
 use Rattle.steam.specs.Lines.{as_factors, totals_of, lines_of}
 
@@ -137,3 +138,11 @@ module _ (u : ℤ) (b : SteamBook) where
         fourth = between_same (λ i. (e i).fourth.0) (line_within _ us t.fourth);
         all = between_same (λ i. (e i).all.0) (line_within _ us t.all);
       }
+
+-- of a bill with its lines: the lines, and what is due under runs 1 to 4
+module _ (billed : Billed) where
+  pub lines_small : LinesWithin billed.bill.posting.first billed.bill.book billed.lines
+  lines_small = lines_within _ _ billed.lines billed.bill.book_within billed.bill.ranged.0 billed.lines_are
+
+  pub dues_small : CentsWithin (cents (due_at billed.bill.book 0)) × CentsWithin (cents (due_at billed.bill.book 1)) × CentsWithin (cents (due_at billed.bill.book 2)) × CentsWithin (cents (due_at billed.bill.book 3))
+  dues_small = one_by_one (cents (pos 0)) billed.bill.book_within.runs.dues

@@ -1,28 +1,35 @@
-// The steam book's call: a posting goes in with the book, an answer and the next book come back.
+// The steam book's call: a posting goes in with the lent book, and an answer or a refusal comes back. The book is then the next one, or with a
+// refusal as it was.
 #![tactic(auto)]
 
 ghost use Rattle.std.specs.Prelude.{◌≡◌};
-ghost use Rattle.steam_rules.specs.Refusals.{post_of};
+ghost use Rattle.riders.specs.Rules.{answered_by, left_by};
+ghost use Rattle.steam_rules.specs.Refusals.{rules};
 
-use found::Found;
-use postings::{Posted, Posting};
+use effects::Accepted;
+use postings::{Answer, Posting};
 use refusals::Refusal;
 use steam_rules::SteamBook;
 
-mod bill;
 mod bills;
 mod effects;
-mod found;
 mod month_ends;
 
-// What a posting gives: the answer and the next book, or a refusal, which leaves the book as it was.
-pub fn post(book: SteamBook, posting: Posting) -> Result<Posted<SteamBook>, Refusal>
-    ensures { result ≡ post_of book posting }
+// Takes a posting: its answer, with the next book in the place of this one; or its refusal, with the book as it was. In place, since
+// each move of a book that a call hands back is a copy.
+// The electric book has the same four steps: a trait for both would ask for three members, each with a contract.
+pub fn take(book: &mut SteamBook, posting: Posting) -> Result<Answer, Refusal>
+    ensures { (result ≡ answered_by rules book.old posting) × (book.new ≡ left_by rules book.old posting) }
 {
-    let kind = steam_refusals::accepted(book, posting)?;
-    let posted = Found { book }.effect(kind, posting);
+    let kind = steam_refusals::accepted(*book, posting)?;
+    let posted = Accepted {
+        book: *book,
+        posting,
+    }
+    .effect(kind);
     if !steam_refusals::limits::in_limits(posted.book) {
         return Err(Refusal::NextOutOfLimits);
     }
-    Ok(posted)
+    *book = posted.book;
+    Ok(posted.answer)
 }

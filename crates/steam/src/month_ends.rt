@@ -6,12 +6,12 @@ ghost use Rattle.ints.specs.Range.{Within};
 ghost use Rattle.riders.specs.Runs.{RunWithin};
 ghost use Rattle.steam_rules.specs.Next.{entered, reconciled};
 
-use crate::found::Found;
+use crate::effects::Accepted;
 use amounts::Cents;
 use riders::Run;
 use steam_rules::{Reconciliation, SteamBook};
 
-impl Found {
+impl Accepted {
     // The run that enters, by its place, adds its due cents to the carried ones and becomes the pending run.
     pub(crate) fn entered(self, run: Option<usize>) -> SteamBook
         requires { IfSome run (λ place. place < 4) }

@@ -50,20 +50,17 @@ fn too_small(kind: Kind, posting: Posting) -> bool
     ensures { result ≡ too_small kind posting }
 {
     match kind {
-        Kind::Adjust => {
-            let size = posting.first.unsigned_abs();
-            !(posting.second < 10 * (size as i64))
-        }
+        Kind::Adjust => posting.second >= 10 * posting.first.abs(),
         _ => false,
     }
 }
 
-// The posting's kind, or the refusal of the first row that holds.
-#[tactic(auto, unfolding(refusals::specs::Rows::refusal_by, refusals::specs::Rows::by_table, refusals::specs::Rows::before, refusals::specs::Rows::number_of))]
+// The posting's kind, or the refusal of the first row that holds. Row by row, as the electric book's.
+#[tactic(auto, unfolding(refusals::specs::Rows::refusal_by, refusals::specs::Rows::by_table, refusals::specs::Rows::before, refusals::specs::Rows::number_of), using(refusals::proofs::TableLaws::row_accepts, postings::specs::Ranged::none_out_of_range))]
 pub fn accepted(book: SteamBook, posting: Posting) -> Result<Kind, Refusal>
     ensures { result ≡ by_table (before Refusal.NextOutOfLimits (rows_of book posting)) (Ok (kind_of posting.kind)) Err }
 {
-    let kind = Kind::from(posting.kind);
+    let kind = posting.kind();
     refuse_if(
         postings::unknown_kind(Book::Steam, posting),
         Refusal::UnknownKind,

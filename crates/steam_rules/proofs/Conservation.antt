@@ -21,7 +21,7 @@ use Rattle.riders.specs.Rules.{left_by, answered_by, by_rules}
 use Rattle.riders.specs.Histories.{line_answered, entry_of, kept_after}
 use Rattle.riders.specs.Balances.{line_billed, amount_added, cents_moved}
 use Rattle.riders.specs.Waiting.{none_pending}
-use Rattle.steam_rules.proofs.Waiting.{clear, settle_clear, month_turns}
+use Rattle.steam_rules.proofs.Waiting.{months_turn}
 use Rattle.steam_rules.proofs.Found.{dates, four_factors, four_dues, none_due}
 use Rattle.steam_rules.proofs.Held.{held_billed, held_settled, held_entered, held_reconciled, held_adjusted, held_reconciling}
 use Rattle.steam_rules.proofs.Shares.{Shared, settled_shared}
@@ -42,7 +42,7 @@ use Rattle.riders.specs.Waiting as waiting
 
 -- nothing can be pending
 abbrev clear_in : SteamBook → Bool
-clear_in b = clear b.month b.settled
+clear_in b = waiting.clear settles entering b.month b.settled
 
 -- what book and tally share
 record Kept (b : SteamBook) (t : Tally) : Type 0 where
@@ -116,7 +116,7 @@ module _ (b : SteamBook) (t : Tally) (p : Posting) (k : Kept b t) where
   settle_keeps : forbidden Settle (settles b.month) b.settled ≡ false → Keeps Settle
   unfolding next_at answer_at count_at settle_posted settle_counted waiting.clear
   settle_keeps allowed =
-      let nothing = k.pending (settle_clear b.month b.settled allowed) in
+      let nothing = k.pending (waiting.settle_clear settles entering b.month b.settled allowed) in
       let share = share_of t.period in
       record {
         period = ap (λ (q : Period). period_of (pos 0) (pos 0) (remainder_after q)) k.period;
@@ -141,7 +141,7 @@ module _ (b : SteamBook) (t : Tally) (p : Posting) (k : Kept b t) where
         pending =
             λ c.
             (λ i. ((lost_pending months e ∙ entered_pending run b) i).due.0)
-            ∙ none_pending _ (is_some run) (clear_in b) b.pending (month_turns b.month b.settled (dates b limits) allowed) k.pending c;
+            ∙ none_pending _ (is_some run) (clear_in b) b.pending (waiting.month_turns settles entering months_turn b.month b.settled (dates b limits) allowed) k.pending c;
         shares = k.shares;
       }
 

@@ -1,24 +1,9 @@
--- When nothing can be pending on the steam book, by its calendar. Assumes nothing.
-use mathlib.Core.Path.{◌≡◌}
-use mathlib.Core.Bool.{Bool, true, false}
-use Prim.Native.Nat.{ℕ}
+-- No month's end of the steam book leads from a pending amount to a clear month, by its calendar. Assumes nothing.
 use lib.Dec.{T}
-use Rattle.postings.specs.declared.kinds.Kind.TheVariants.{Settle, MonthEnd}
-use Rattle.riders.specs.Months.{month_after, month_in_limits, forbidden}
+use Rattle.riders.specs.Months.{month_after}
+use Rattle.riders.specs.Waiting.{clear, all_turn}
 use Rattle.steam_rules.specs.Calendar.{settles, entering}
-use Rattle.riders.specs.Waiting as waiting
 
-abbrev pub clear : ℕ → Bool → Bool
-clear = waiting.clear settles entering
-
-abbrev pub turns : ℕ → Bool → Bool
-turns = waiting.turns settles entering
-
-module _ (month : ℕ) (settled : Bool) where
-  pub settle_clear : forbidden Settle (settles month) settled ≡ false → clear month settled ≡ true
-  settle_clear = waiting.settle_clear settles entering month settled
-
-  module _ (limits : month_in_limits month (settles month) settled ≡ true) where
-    pub month_turns : forbidden MonthEnd (settles month) settled ≡ false → T (turns month settled)
-    unfolding waiting.clear settles entering month_after
-    month_turns = waiting.month_turns settles entering tt month settled limits
+pub months_turn : T (all_turn settles entering)
+unfolding clear settles entering month_after
+months_turn = tt

@@ -4,7 +4,7 @@
 
 ghost use Rattle.std.specs.Prelude.{◌≡◌};
 ghost use Rattle.steam_rules.specs.Book.{no_period, no_reconciliation, fresh_of};
-ghost use Rattle.steam_rules.specs.Limits.{mmbtu_in_limits, remainder_in_limits, period_in_limits, quarters_in_limits};
+ghost use Rattle.steam_rules.specs.Limits.{mmbtu_in_limits, remainder_in_limits, period_in_limits, reconciliation_in_limits, all_four};
 ghost use Rattle.steam_rules.specs.Opening.{opened_of, handed_back};
 
 use amounts::{Cents, Points, Stored};
@@ -17,6 +17,7 @@ use riders::Run;
 pub struct Mmbtu(pub i64);
 
 // What rounding left of the customers' shares, in ten-thousandths of a cent: document 01's rem.
+// A type of its own in either book, since it counts other parts of a cent.
 #[repr(C)]
 #[derive(Clone, Copy, Debug, PartialEq, Eq)]
 pub struct Remainder(pub i64);
@@ -30,7 +31,7 @@ pub struct Period {
     pub remainder: Remainder,
 }
 
-// The reconciliation run and the months that it has left, none where none runs.
+// The reconciliation run and the months that it has left. 0 is none, and no Option, since a host's struct has the number.
 #[repr(C)]
 #[derive(Clone, Copy, Debug, PartialEq, Eq)]
 pub struct Reconciliation {
@@ -39,6 +40,7 @@ pub struct Reconciliation {
 }
 
 // Past quarters stand oldest first; factors and dues are those of runs 1 to 4; carried is document 01's account A.
+// Factors and dues are two arrays and no array of runs: the paper and the C interface name them apart.
 #[repr(C)]
 #[derive(Clone, Copy, Debug, PartialEq, Eq)]
 pub struct SteamBook {
@@ -53,20 +55,20 @@ pub struct SteamBook {
     pub reconciliation: Reconciliation,
 }
 
-impl Mmbtu {
-    // Whether a book may store the sales.
-    pub fn in_limits(self) -> bool
-        ensures { result ≡ mmbtu_in_limits self }
-    {
+impl Stored for Mmbtu {
+    ghost within = { mmbtu_in_limits };
+
+    #[tactic(auto, unfolding(crate::specs::Limits::mmbtu_in_limits))]
+    fn in_limits(self) -> bool {
         ints::in_range(self.0, 0, SteamBook::MOST_MMBTU)
     }
 }
 
-impl Remainder {
-    // Whether a book may store the remainder.
-    fn in_limits(self) -> bool
-        ensures { result ≡ remainder_in_limits self }
-    {
+impl Stored for Remainder {
+    ghost within = { remainder_in_limits };
+
+    #[tactic(auto, unfolding(crate::specs::Limits::remainder_in_limits))]
+    fn in_limits(self) -> bool {
         ints::in_range(
             self.0,
             -SteamBook::MOST_REMAINDER,
@@ -75,14 +77,16 @@ impl Remainder {
     }
 }
 
-impl Period {
-    // Whether a book may store the open quarter.
-    pub fn in_limits(self) -> bool
-        ensures { result ≡ period_in_limits self }
-    {
+impl Stored for Period {
+    ghost within = { period_in_limits };
+
+    #[tactic(auto, unfolding(crate::specs::Limits::period_in_limits))]
+    fn in_limits(self) -> bool {
         self.cost.in_limits() & (self.sales.in_limits() & self.remainder.in_limits())
     }
+}
 
+impl Period {
     // Nothing open, and no remainder.
     fn none() -> Period
         ensures { result ≡ no_period }
@@ -92,6 +96,18 @@ impl Period {
             sales: Mmbtu(0),
             remainder: Remainder(0),
         }
+    }
+}
+
+// At most 24 months are left; where none is, there is neither factor nor cents.
+impl Stored for Reconciliation {
+    ghost within = { reconciliation_in_limits };
+
+    #[tactic(auto, unfolding(crate::specs::Limits::reconciliation_in_limits))]
+    fn in_limits(self) -> bool {
+        (self.months <= SteamBook::MOST_MONTHS)
+            & (self.run.in_limits()
+                & ((self.months != 0) | ((self.run.factor.0 == 0) & (self.run.due.0 == 0))))
     }
 }
 
@@ -121,10 +137,11 @@ impl SteamBook {
     pub const MOST_MONTHS: u8 = 24;
 
     // The fresh book after these four quarters, oldest first. A quarter out of range is refused.
+    #[tactic(auto, unfolding(crate::specs::Opening::opened_of, crate::specs::Limits::quarters_in_limits, refusals::specs::Rows::by_table, refusals::specs::Rows::refusal_by))]
     pub fn open(quarters: [Mmbtu; 4]) -> Result<SteamBook, Refusal>
         ensures { result ≡ opened_of quarters }
     {
-        if !quarters_in_limits(quarters) {
+        if !four_in_limits(quarters) {
             return Err(Refusal::OutOfRange);
         }
         Ok(SteamBook::fresh(quarters))
@@ -154,10 +171,11 @@ impl SteamBook {
     }
 }
 
-// Whether a book may store each of the quarters. All four are tested, with no branch: `iter().all` was slower.
-pub fn quarters_in_limits(quarters: [Mmbtu; 4]) -> bool
-    ensures { result ≡ quarters_in_limits quarters }
+// Whether a book may store each of the four. All four are tested, with no branch: `iter().all` was slower.
+#[tactic(auto, using(crate::specs::Fours::tested_four))]
+pub fn four_in_limits<T: Stored>(values: [T; 4]) -> bool
+    ensures { result ≡ all_four T.within values }
 {
-    quarters[0].in_limits()
-        & (quarters[1].in_limits() & (quarters[2].in_limits() & quarters[3].in_limits()))
+    values[0].in_limits()
+        & (values[1].in_limits() & (values[2].in_limits() & values[3].in_limits()))
 }

@@ -4,7 +4,7 @@
 ghost use Rattle.std.specs.Prelude.{◌≡◌};
 ghost use Rattle.steam_settlement.specs.Shares.{shared_or0};
 
-use amounts::Cents;
+use amounts::{Cents, Stored};
 use settling::Settling;
 use steam_rules::Period;
 
@@ -20,6 +20,8 @@ pub struct Shared {
 }
 
 // Document 01's R and the next quarter for any quarter; no share, and the quarter as it was, where that is out of its limits.
+// No Option: a public call asks for nothing, and its caller has shown the limits, so that it would never meet a None.
+#[tactic(auto, unfolding(crate::specs::Shares::shared_or0))]
 pub fn shared_of(period: Period) -> Shared
     ensures { result ≡ shared_or0 period }
 {

@@ -1,26 +1,12 @@
--- `journal::opening::opened` opens what the input names, or refuses it. Assumes nothing.
+-- `journal::opening::opened` refuses what the book refuses that the input names. Assumes nothing.
 use mathlib.Core.Path.{◌≡◌, sym, ap, ◌∙◌}
 use native.Mathlib.Omega.{arith}
 use borrow.Author.Rules.{rules}
 use Rattle.std.specs.Prelude.{Err}
 use Rattle.steam_rules.specs.Opening as steam
 use Rattle.journal.specs.Journal.{first_byte}
-use Rattle.journal.proofs.Openings.{too_long, empty, cut_short, steam_refused, steam_opens, electric_refused, electric_opens, quarters_given, quarters_refused}
+use Rattle.journal.proofs.Openings.{steam_refused, electric_refused, quarters_given}
 use Rattle.journal.proofs.opening.opened.Goals as goal
-
-pub returns-then-input-gt-MOST_BYTES : goal.returns-then-input-gt-MOST_BYTES
-returns-then-input-gt-MOST_BYTES c = too_long c.args.input.now c.if-input-gt-MOST_BYTES.true
-
-pub returns-in-empty : goal.returns-in-empty
-returns-in-empty c = empty c.args.input.now c.if-input-gt-MOST_BYTES.false (omega (arith, c.in-empty.len_below))
-
-pub returns-in_err-quarters-in-2 : goal.returns-in_err-quarters-in-2
-returns-in_err-quarters-in-2 c =
-    let bytes = c.args.input.now in
-    let two : first_byte bytes ≡ 2 = search rules in
-    let refused : c.from_residual.result ≡ Err c.in_err-quarters-in-2.field-0.0 = search rules in
-    let short = quarters_refused bytes c.in_err-quarters-in-2.ensures in
-    refused ∙ ap Err short.0 ∙ cut_short bytes c.if-input-gt-MOST_BYTES.false (λ z. omega (arith, c.in-2.len_at_least, z)) two short.1
 
 pub returns-in_err-open-in-2 : goal.returns-in_err-open-in-2
 returns-in_err-open-in-2 c =
@@ -31,23 +17,9 @@ returns-in_err-open-in-2 c =
     refused ∙ steam_refused bytes c.if-input-gt-MOST_BYTES.false (λ z. omega (arith, c.in-2.len_at_least, z)) two _ given.1
     (ap steam.opened_of (sym given.0) ∙ sym c.in_err-open-in-2.ensures)
 
-pub returns-in_ok-open-in-2 : goal.returns-in_ok-open-in-2
-returns-in_ok-open-in-2 c =
-    let bytes = c.args.input.now in
-    let two : first_byte bytes ≡ 2 = search rules in
-    let given = quarters_given bytes c.in_ok-quarters-in-2.ensures in
-    steam_opens bytes c.if-input-gt-MOST_BYTES.false (λ z. omega (arith, c.in-2.len_at_least, z)) two _ given.1
-    (ap steam.opened_of (sym given.0) ∙ sym c.in_ok-open-in-2.ensures)
-
 pub returns-in_err-open-in-len1-up : goal.returns-in_err-open-in-len1-up
 returns-in_err-open-in-len1-up c =
     let bytes = c.args.input.now in
     let refused : c.from_residual-in_err-open-in-len1-up.result ≡ Err c.in_err-open-in-len1-up.field-0.0 = search rules in
     refused ∙ electric_refused bytes c.if-input-gt-MOST_BYTES.false (λ z. omega (arith, c.in-len1-up.len_at_least, z)) (λ two. omega (arith, two)) _
     (sym c.in_err-open-in-len1-up.ensures)
-
-pub returns-in_ok-open-in-len1-up : goal.returns-in_ok-open-in-len1-up
-returns-in_ok-open-in-len1-up c =
-    let bytes = c.args.input.now in
-    electric_opens bytes c.if-input-gt-MOST_BYTES.false (λ z. omega (arith, c.in-len1-up.len_at_least, z)) (λ two. omega (arith, two)) _
-    (sym c.in_ok-open-in-len1-up.ensures)

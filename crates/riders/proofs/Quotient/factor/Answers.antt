@@ -1,39 +1,34 @@
 -- `Quotient::factor` narrows a factor that a book may store, and gives one past the most for any other. Assumes nothing.
-use mathlib.Core.Path.{◌≡◌, sym, ◌∙◌}
-use mathlib.Core.Bool.{true}
-use lib.IntN.{pos, neg_ℤ}
+use Rattle.std.specs.Prelude.{◌≡◌, cond, pos}
+use Rattle.std.specs.Result.{OkIff}
+use Rattle.std.proofs.Common.{rules, subst, sym, ◌∙◌}
 use mir.Syntax.{w32, w64}
 use mir.Val.{SFits, to_z, of_z}
-use borrow.Author.Rules.{rules}
-use Rattle.ints.specs.Exact.{exacts, exact}
-use Rattle.ints.specs.Bound.{bounds, fits32}
-use Rattle.ints.specs.Machine.{tested}
-use Rattle.ints.specs.Range.{in_range}
-use Rattle.amounts.specs.Amounts.{points, points_in_limits, points_within, same_points}
-use Rattle.riders.specs.Runs.{narrowed_in, narrowed_beyond}
+use mir.Facts.{to_z-of_z}
+use Rattle.amounts.specs.Amounts.{points, points_in_limits, same_points}
+use Rattle.riders.specs.Runs.{narrowed}
+use Rattle.riders.proofs.Narrowing.{narrowed_tried}
 use Rattle.riders.proofs.Quotient.factor.Goals as goal
+use Rattle.riders.proofs.Quotient.factor.Goals.{After-in_limits}
 
-pub overflow_cast-result : goal.overflow_cast-result
-unfolding points_in_limits
-overflow_cast-result c =
-    let inside : points_in_limits (points c.args.self.0) ≡ true = let f : SFits w64 c.args.self.0 = search rules in
-    tested (in_range (neg_ℤ (pos 99999)) (pos 99999)) f c.in_range.ensures c.if-in_range.true in
-    let w = points_within (points _) (inside) in fits32 (search (bounds, w) depth 30) tt
+narrowed_is :
+    (c : After-in_limits) →
+    narrowed c.args.self.0 ≡ cond c.in_limits.result (to_z w32 (of_z w32 c.unwrap_or.result)) (pos 100000)
+narrowed_is c =
+    let f : SFits w64 c.args.self.0 = search rules in
+    let g : SFits w32 c.unwrap_or.result = search rules in
+    let tried = subst (λ z. OkIff c.try_from.result (SFits w32 z) z) (to_z-of_z f) c.try_from.ensures in
+    let factor = to_z-of_z g ∙ c.unwrap_or.ensures in
+    narrowed_tried c.try_from.result c.args.self.0 tried
+    ∙ sym ((λ i. cond (c.in_limits.ensures i) (to_z w32 (of_z w32 c.unwrap_or.result)) (pos 100000))
+    ∙ (λ i. cond (points_in_limits (points (factor i))) (factor i) (pos 100000)))
 
-pub returns-then-in_range : goal.returns-then-in_range
-unfolding points_in_limits
-returns-then-in_range c =
-    let inside : points_in_limits (points c.args.self.0) ≡ true = let f : SFits w64 c.args.self.0 = search rules in
-    tested (in_range (neg_ℤ (pos 99999)) (pos 99999)) f c.in_range.ensures c.if-in_range.true in
-    let q = c.args.self.0 in
-    let t = inside in
-    let w = points_within (points q) t in
-    let e : to_z w32 (of_z w32 (to_z w64 (of_z w64 q))) ≡ q = exact (search (exacts, w) depth 30) tt in
-    same_points (e ∙ sym (narrowed_in q t))
+pub returns-then-in_limits : goal.returns-then-in_limits
+returns-then-in_limits c =
+    let e = narrowed_is (goal.at.returns-then-in_limits c).After-in_limits in
+    same_points (sym (e ∙ (λ i. cond (c.if-in_limits.true i) (to_z w32 (of_z w32 c.unwrap_or.result)) (pos 100000))))
 
 pub returns : goal.returns
-unfolding points_in_limits
 returns c =
-    let q = c.args.self.0 in
-    let f : SFits w64 q = search rules in
-    same_points (sym (narrowed_beyond q (tested (in_range (neg_ℤ (pos 99999)) (pos 99999)) f c.in_range.ensures c.if-in_range.false)))
+    let e = narrowed_is (goal.at.returns c).After-in_limits in
+    same_points (sym (e ∙ (λ i. cond (c.if-in_limits.false i) (to_z w32 (of_z w32 c.unwrap_or.result)) (pos 100000))))

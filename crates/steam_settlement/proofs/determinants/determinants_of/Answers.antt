@@ -18,12 +18,12 @@ use Rattle.steam_settlement.proofs.determinants.determinants_of.Goals.{After-in_
 abbrev all_within : After-in_range → Bool
 all_within c = let s = c.args in mmbtu_in_limits s.sales && (quarters_in_limits s.quarters && adjustment_in_range s.adjustment.0)
 
-tested_within : (c : After-in_range) → c.in_limits.result && (c.quarters_in_limits.result && c.in_range.result) ≡ all_within c
-unfolding adjustment_in_range
+tested_within : (c : After-in_range) → c.in_limits.result && (c.four_in_limits.result && c.in_range.result) ≡ all_within c
+unfolding adjustment_in_range quarters_in_limits
 tested_within c =
     let f : SFits w64 c.args.adjustment.0 = search rules in
     let ranged = c.in_range.ensures ∙ ap adjustment_in_range (to_z-of_z f) in
-    λ i. c.in_limits.ensures i && (c.quarters_in_limits.ensures i && ranged i)
+    λ i. c.in_limits.ensures i && (c.four_in_limits.ensures i && ranged i)
 
 pub returns-then-not-within : goal.returns-then-not-within
 unfolding determinants_or0

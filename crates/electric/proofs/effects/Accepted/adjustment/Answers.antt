@@ -17,4 +17,4 @@ returns c =
     let f : SFits w64 p.first = search rules in
     let adjusted = c.adjusted-adjusted.ensures ∙ ap (adjusted_level p.second) c.level.ensures in
     let next = c.with_level.ensures ∙ (λ i. with_level_at (to_z-of_z f i) s.book (adjusted i)) in
-    λ i. posted Done (next i)
+    c.done.ensures ∙ (λ i. posted Done (next i))

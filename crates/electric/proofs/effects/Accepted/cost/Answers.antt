@@ -1,4 +1,5 @@
 -- `Accepted::cost` is the effect of a cost posting: it is added to the period. Assumes nothing.
+use Rattle.std.proofs.Common.{◌∙◌}
 use Rattle.ints.specs.Exact.{exacts, exact}
 use Rattle.postings.specs.declared.Answer.TheVariants.{Done}
 use Rattle.riders.specs.Rules.{posted}
@@ -10,4 +11,4 @@ pub returns : goal.returns
 returns c =
     let s = c.args.self in
     let period = same_cost s.book.period (exact (search (exacts, s.book_within.period, c.requires) depth 30) tt) in
-    λ i. posted Done (with_period s.book (period i))
+    c.done.ensures ∙ (λ i. posted Done (with_period s.book (period i)))

@@ -4,14 +4,14 @@ use lib.IntN.{ℤ, pos, ◌-ℤ◌}
 use mir.Syntax.{w64}
 use mir.Val.{to_z, of_z}
 use Rattle.ints.specs.Bound.{bounds, fits64}
-use Rattle.ints.specs.Exact.{exacts, exact}
+use Rattle.ints.specs.Exact.{exacts, e_eq, exact}
 use Rattle.ints.specs.Range.{Within, between_same}
 use Rattle.rounding.specs.Round.{round}
 use Rattle.amounts.specs.Amounts.{cents}
 use Rattle.riders.specs.Lines.{part_of}
 use Rattle.riders.specs.Runs.{due_less}
 use Rattle.electric_rules.specs.Levels.{factors_of, level_line}
-use Rattle.electric.proofs.Bills.{line_is, first_is, second_is, line_within, first_within, second_within}
+use Rattle.electric.proofs.Bills.{factor_read, line_is, first_is, second_is, line_within, first_within, second_within}
 use Rattle.electric.proofs.levels.LevelInLimits.billed.Goals as goal
 use Rattle.electric.proofs.levels.LevelInLimits.billed.Goals.{After-to_cents-first}
 
@@ -19,13 +19,13 @@ line_sent : (c : After-to_cents-first) → c.to_cents-line.result ≡ cents (lev
 line_sent c =
     let l = c.args.self in
     let u = c.args.posting.second in
-    c.to_cents-line.ensures ∙ ap (λ (z : ℤ). cents (round z (pos 100))) (exact (search (exacts, l.within, c.requires) depth 30) tt) ∙ ap cents (line_is u l.level)
+    c.to_cents-line.ensures ∙ ap (λ (z : ℤ). cents (round z (pos 100))) (exact (search (exacts, e_eq, l.within, c.requires) depth 30) tt) ∙ ap cents (line_is u l.level)
 
 first_sent : (c : After-to_cents-first) → c.to_cents-first.result ≡ cents (part_of c.args.posting.second (factors_of c.args.self.level) 0)
 first_sent c =
     let l = c.args.self in
     let u = c.args.posting.second in
-    c.to_cents-first.ensures ∙ ap (λ (z : ℤ). cents (round z (pos 100))) (exact (search (exacts, l.within, c.requires) depth 30) tt) ∙ ap cents (first_is u l.level)
+    c.to_cents-first.ensures ∙ ap (λ (z : ℤ). cents (round z (pos 100))) (exact (search (exacts, e_eq, l.within, c.requires) depth 30) tt) ∙ ap cents (first_is u l.level)
 
 line_small : (c : After-to_cents-first) → Within 5000000000000 c.to_cents-line.result.0
 line_small c = between_same (λ i. (line_sent c i).0) (line_within c.args.posting.second c.args.self.level c.requires.1.0 c.args.self.within)
@@ -42,11 +42,17 @@ second_sent c =
 
 pub overflow_mul-posting : goal.overflow_mul-posting
 overflow_mul-posting c =
-    fits64 (search (bounds, c.args.self.within, c.requires) depth 30) tt
+    let w = c.args.self.within in
+    let usage = c.requires.1.0 in
+    let first = factor_read c.from-factor.ensures w.first.factor in
+    let second = factor_read c.from.ensures w.second.factor in
+    fits64 (search (bounds, usage, first, second) depth 30) tt
 
 pub overflow_mul-posting-2 : goal.overflow_mul-posting-2
 overflow_mul-posting-2 c =
-    fits64 (search (bounds, c.args.self.within, c.requires) depth 30) tt
+    let usage = c.requires.1.0 in
+    let first = factor_read c.from-factor.ensures c.args.self.within.first.factor in
+    fits64 (search (bounds, usage, first) depth 30) tt
 
 pub overflow_sub-second : goal.overflow_sub-second
 overflow_sub-second c =

@@ -14,14 +14,14 @@ use Rattle.electric.proofs.levels.LevelInLimits.ended.Goals as goal
 pub overflow_add-accrued : goal.overflow_add-accrued
 overflow_add-accrued c =
     let l = c.args.self in
-    let interest : Within 100000000000 c.interest-interest.result.0 = between_same (λ i. (c.interest-interest.ensures i).0) (interest_within c.args.posting.first l.level c.requires.0 l.within) in
+    let interest : Within 100000000000 c.interest-interest.result.0 = between_same (λ i. (c.interest-interest.ensures i).0) (interest_within c.args.month_end.posting.first l.level c.args.month_end.ranged.0 l.within) in
     fits64 (search (bounds, interest, l.within.interest) depth 30) tt
 
 pub returns : goal.returns
 returns c =
     let l = c.args.self in
-    let interest : Within 100000000000 c.interest-interest.result.0 = between_same (λ i. (c.interest-interest.ensures i).0) (interest_within c.args.posting.first l.level c.requires.0 l.within) in
+    let interest : Within 100000000000 c.interest-interest.result.0 = between_same (λ i. (c.interest-interest.ensures i).0) (interest_within c.args.month_end.posting.first l.level c.args.month_end.ranged.0 l.within) in
     let e : to_z w64 (of_z w64 (to_z w64 (of_z w64 l.level.interest.0) +ℤ to_z w64 (of_z w64 c.interest-interest.result.0))) ≡ l.level.interest.0 +ℤ c.interest-interest.result.0 = exact (search (exacts, interest, l.within.interest) depth 30) tt in
     let accrued = same_interest l.level (e ∙ (λ i. l.level.interest.0 +ℤ (c.interest-interest.ensures i).0)) in
-    let next = c.handed_over.ensures ∙ ap (handed_over c.args.entering) accrued in
+    let next = c.handed_over.ensures ∙ ap (handed_over c.args.month_end.entering) accrued in
     λ i. (c.interest-interest.ensures i, next i)

@@ -6,11 +6,21 @@ use Rattle.amounts.specs.Amounts.{same_cents}
 use Rattle.electric_rules.specs.Levels.{bearing_of, interest_on}
 use Rattle.electric.proofs.levels.LevelInLimits.interest.Goals as goal
 
-pub overflow_mul-posting : goal.overflow_mul-posting
-overflow_mul-posting c =
-    fits64 (search (bounds, c.args.self.within, c.requires) depth 30) tt
+pub overflow_mul-month_end : goal.overflow_mul-month_end
+overflow_mul-month_end c =
+    let rate = c.args.month_end.ranged.0 in
+    let carried = c.args.self.within.carried in
+    let pending = c.args.self.within.pending.due in
+    let first = c.args.self.within.first.due in
+    let second = c.args.self.within.second.due in
+    fits64 (search (bounds, rate, carried, pending, first, second) depth 30) tt
 
 pub returns : goal.returns
 unfolding interest_on bearing_of
 returns c =
-    same_cents (exact (search (exacts, rounds, e_eq, c.args.self.within, c.requires) depth 30) tt)
+    let rate = c.args.month_end.ranged.0 in
+    let carried = c.args.self.within.carried in
+    let pending = c.args.self.within.pending.due in
+    let first = c.args.self.within.first.due in
+    let second = c.args.self.within.second.due in
+    same_cents (exact (search (exacts, rounds, e_eq, rate, carried, pending, first, second) depth 30) tt)

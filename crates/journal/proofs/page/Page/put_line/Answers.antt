@@ -1,15 +1,14 @@
 use Prim.Native.Nat.{ℕ}
-use mathlib.Core.Path.{subst}
-use Rattle.journal.specs.Steps.{Puts}
-use Rattle.journal.proofs.Storing.{puts_then, puts_two}
+use mathlib.Core.Path.{ap}
+use native.Mathlib.Omega.{arith}
+use Rattle.journal.proofs.Storing.{prints_then, prints_two, prints_as}
 use Rattle.journal.specs.Lines.{record_line}
 use Rattle.journal.proofs.page.Page.put_line.Goals as goal
 
-pub returns-clause-puts : goal.returns-clause-puts
+pub returns : goal.returns
 unfolding record_line
-returns-clause-puts c =
+returns c =
     let s = c.args in
-    let page = c.put_word-2.new.self in
-    let kind = puts_two _ _ c.put.ensures.puts c.put_one.ensures.puts in
-    subst (λ (kind : ℕ). Puts (record_line s.number kind s.answer) s.self.now.used s.self.now.buffer.now page.used page.buffer.now) c.from.ensures
-    (puts_then (puts_then (puts_then kind c.put_word.ensures.puts) c.put_answer.ensures.puts) c.put_word-2.ensures.puts)
+    let kind = prints_two _ _ c.put.ensures c.put_one.ensures in
+    prints_as (prints_then (prints_then (prints_then kind c.put_word.ensures) c.put_answer.ensures) c.put_word-2.ensures)
+    (ap (λ (kind : ℕ). record_line s.number kind s.answer) c.from.ensures) (omega arith)

@@ -13,19 +13,15 @@ loop-place-smaller g c =
 
 pub loop-place-preserved : goal.loop-place-preserved
 loop-place-preserved g c =
-    let k = c.loop-place.invariant in
-    let p = c.put_line.ensures in
-    record {
-      same_buffer = p.same_buffer ∙ k.same_buffer;
-      kept = again _ _ _ k.kept c.loop-place-test.true _ _ c.in-Ok.found (sym c.in-Ok.is ∙ c.read_record.ensures ∙ ap (λ (kinds : Book). read_of kinds c.args.input.now c.loop-place.place) c.KINDS.ensures) _ c.answered-answer.ensures.0 _ c.answered-answer.ensures.1 p.puts p.short;
-    }
+    again _ _ _ c.loop-place.invariant c.loop-place-test.true _ c.in-Ok.found
+    (sym c.in-Ok.is ∙ c.read_record.ensures ∙ ap (λ (kinds : Book). read_of kinds c.args.input.now c.loop-place.place) c.KINDS.ensures)
+    _ c.take-answer.ensures.0 _ c.take-answer.ensures.1 c.put_line.ensures
 
-pub returns-in-Err-clause-same_buffer : goal.returns-in-Err-clause-same_buffer
-returns-in-Err-clause-same_buffer g c = c.put_line-in-Err.ensures.same_buffer ∙ c.loop-place.invariant.same_buffer
+pub returns-in-Err : goal.returns-in-Err
+returns-in-Err g c =
+    stopped _ _ _ c.loop-place.invariant c.loop-place-test.true _ c.in-Err.refusal
+    (sym c.in-Err.is ∙ c.read_record.ensures ∙ ap (λ (kinds : Book). read_of kinds c.args.input.now c.loop-place.place) c.KINDS.ensures)
+    c.put_line-in-Err.ensures
 
-pub returns-in-Err-clause-puts : goal.returns-in-Err-clause-puts
-returns-in-Err-clause-puts g c =
-    stopped _ _ _ c.loop-place.invariant.kept c.loop-place-test.true _ _ c.in-Err.refusal (sym c.in-Err.is ∙ c.read_record.ensures ∙ ap (λ (kinds : Book). read_of kinds c.args.input.now c.loop-place.place) c.KINDS.ensures) c.put_line-in-Err.ensures.puts
-
-pub returns-clause-puts : goal.returns-clause-puts
-returns-clause-puts g c = ended _ _ _ c.loop-place.invariant.kept c.loop-place-test.false
+pub returns : goal.returns
+returns g c = ended _ _ _ c.loop-place.invariant c.loop-place-test.false

@@ -1,6 +1,5 @@
 -- `Page::put_records` prints the lines of the records, turn by turn. Assumes nothing.
 use Prim.Native.Nat.{◌-◌}
-use mathlib.Core.Path.{◌≡◌}
 use lib.ListN.{length}
 use Rattle.journal.proofs.Running.{lines, Kept}
 use Rattle.journal.proofs.page.Page.put_records.Given as goal
@@ -9,10 +8,7 @@ abbrev pub invariant-loop-place : goal.invariant-loop-place
 invariant-loop-place g l =
     let kinds = g.B.Ledger.KINDS in
     let rules = g.B.Ledger.rules in
-    record {
-      same_buffer : l.self.buffer.ghost_name ≡ l.initial.self.buffer.ghost_name;
-      kept : Kept kinds rules l.input (lines kinds rules l.input (length l.input) l.initial.book l.start 1) l.initial.self.buffer.now l.book l.place l.number l.self.used l.self.buffer.now;
-    }
+    Kept kinds rules l.input (lines kinds rules l.input (length l.input) l.initial.book l.start 1) l.initial.self l.book l.place l.number l.self
 
 abbrev pub decreases-loop-place : goal.decreases-loop-place
 decreases-loop-place g l = length l.input - l.place
