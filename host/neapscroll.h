@@ -1,9 +1,9 @@
 /*
  * Neapscroll, the rider ledger: an electric book (fuel adjustment clause) and a steam book (quarterly cost adjustment).
  *
- * Declares what the proved static library exports, for C99 and C++; docs/LINKING.md says how to link it. A book is a
- * struct that the host owns: it goes in by value, and the next one comes back with the reply. A byte slice is a
- * pointer and a length, in that order. No call allocates, keeps anything, or has a precondition on its numbers.
+ * Declares what the proved static library libneapscroll.a exports, for C99 and C++; docs/LINKING.md says how to link it.
+ * A book is a struct that the host owns: it goes in by value, and the next one comes back with the reply. A byte slice
+ * is a pointer and a length, in that order. No call allocates, keeps anything, or has a precondition on its numbers.
  */
 #ifndef NEAPSCROLL_H
 #define NEAPSCROLL_H

@@ -6,25 +6,26 @@ use std::path::{Path, PathBuf};
 use std::process::{Command, Output, Stdio};
 use std::time::SystemTime;
 
-/// What a command of the toolchain builds from a crate, in whose folder it runs.
+/// What a command builds.
 struct Build {
     command: &'static str,
+    /// Where the command runs.
     folder: &'static str,
-    /// By its path in that folder.
+    /// By its path from the top, as the folder.
     built: &'static str,
 }
 
 const LIBRARY: Build = Build {
-    command: "rt lib",
-    folder: "crates/host",
-    built: "out/libhost.a",
+    command: "bash library",
+    folder: "host",
+    built: "target/staticlib/libneapscroll.a",
 };
 
 /// A program is built by running it: here on no input, and what it prints goes nowhere.
 const PROGRAM: Build = Build {
     command: "rt run",
     folder: "crates/neapscroll",
-    built: "out/neapscroll",
+    built: "crates/neapscroll/out/neapscroll",
 };
 
 fn main() {
@@ -40,7 +41,7 @@ fn main() {
         "cargo::rustc-link-search=native={}",
         library_folder.display()
     );
-    println!("cargo::rustc-link-lib=static=host");
+    println!("cargo::rustc-link-lib=static=neapscroll");
     for input in inputs(&top).iter().chain([&library, &program]) {
         println!("cargo::rerun-if-changed={}", input.display());
     }
@@ -53,9 +54,10 @@ fn repository_top() -> PathBuf {
     top.expect("the twin stands in a repository").to_path_buf()
 }
 
-/// The list of crates, and each crate's folders but for what the toolchain itself makes there.
+/// The list of crates, the library's modules with what joins them, and each crate's folders but for what the toolchain itself makes there.
 fn inputs(top: &Path) -> Vec<PathBuf> {
-    let mut inputs = vec![top.join("crates.txt")];
+    let lists = ["crates.txt", "host/modules.txt", "host/library"];
+    let mut inputs: Vec<PathBuf> = lists.map(|list| top.join(list)).into();
     for folder in entries(&top.join("crates")) {
         let parts = entries(&folder).into_iter();
         inputs.extend(parts.filter(|part| !part.ends_with("out")));
@@ -87,7 +89,7 @@ impl Build {
                 folder.display()
             ),
         }
-        let built = folder.join(self.built);
+        let built = top.join(self.built);
         self.date_before_any_run(&built);
         built
     }

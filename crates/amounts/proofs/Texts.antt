@@ -2,7 +2,7 @@
 use mathlib.Core.Path.{◌≡◌, refl, sym, ap, ◌∙◌}
 use mathlib.Core.Bool.{Bool, true, false, cond}
 use mathlib.Core.List.{List, [], ◌∷◌, ◌++◌}
-use Rattle.std.proofs.lemmas.List.{map-append}
+use Rattle.std.proofs.lemmas.List.{map-append, set-set}
 use Rattle.std.proofs.Common.{append_assoc}
 use Rattle.std.specs.Str.{IsAscii}
 use Rattle.std.proofs.lemmas.Str.{IsAscii-append}
@@ -22,7 +22,6 @@ use lib.Seq.{sets}
 use borrow.Author.Tests.{lt-ltb, le-ltb}
 use Rattle.ints.specs.Digits.{digits}
 use Rattle.ints.proofs.DigitLaws.{length_digits}
-use Rattle.ints.specs.Order.{signed}
 use Rattle.refusals.proofs.TableLaws.{at_row, accepted, gives_asked}
 use Rattle.refusals.specs.Stores.{sets_append, sets_front}
 use Rattle.refusals.specs.Writer.{too_short}
@@ -76,14 +75,15 @@ bool_byte-le : (t : Bool) → bool_byte t ≤ 1
 bool_byte-le true = omega arith
 bool_byte-le false = omega arith
 
--- a sign is stored where the test says so
-pub sign_stored : (z : ℤ) (buffer : List ℕ) → lt_z z (pos 0) ≡ true → set buffer 0 45 ≡ sets buffer 0 (sign_of z)
+-- what follows a sign goes behind a stored minus where there is a sign, and over it where there is none
+minus_covered : (z : ℤ) (buffer after : List ℕ) → 1 ≤ length after → sets (set buffer 0 45) (length (sign_of z)) after ≡ sets buffer 0 (sign_of z ++ after)
 unfolding sign_of
-sign_stored z buffer e = simp e
-
-pub no_sign_stored : (z : ℤ) (buffer : List ℕ) → lt_z z (pos 0) ≡ false → buffer ≡ sets buffer 0 (sign_of z)
-unfolding sign_of
-no_sign_stored z buffer e = simp e
+minus_covered z buffer after h = go (lt_z z (pos 0)) after h
+  where
+    go : (t : Bool) (xs : List ℕ) → 1 ≤ length xs → sets (set buffer 0 45) (length {A = ℕ} (cond t (45 ∷ []) [])) xs ≡ sets buffer 0 (cond t (45 ∷ []) [] ++ xs)
+    go true xs h = refl
+    go false [] h = absurd (omega arith)
+    go false (x ∷ xs) h = ap (λ (l : List ℕ). sets l 1 xs) (set-set buffer 0 45 x)
 
 pub text_length : (places : ℕ) (z : ℤ) → length (text_of places z) ≡ length (sign_of z) + width_of (nat_abs z / 10 ^ places) + 1 + places
 unfolding text_of decimal
@@ -124,30 +124,30 @@ module _ (places : ℕ) (z : ℤ) (size whole start point : ℕ) (m : Measured p
       omega (arith, m.start_is, m.point_is, ap width_of m.whole_is, length_sign z, bool_byte-le (lt_z z (pos 0)))
 
   -- its parts, stored one behind the other, are its text
-  pub text_stored : (buffer signed number fraction : List ℕ) → point + 1 + places ≤ length buffer → signed ≡ sets buffer 0 (sign_of z)
-      → number ≡ characters (digits 10 (length (mid_of start (point - start) signed)) whole)
+  pub text_stored : (buffer number fraction : List ℕ) → (let signed = set buffer 0 45 in
+      point + 1 + places ≤ length buffer → number ≡ characters (digits 10 (length (mid_of start (point - start) signed)) whole)
       → (let pointed = set (put_mid start (point - start) signed number) point 46 in
       fraction ≡ characters (digits 10 (length (mid_of (point + 1) (point + 1 + places - (point + 1)) pointed)) size)
-      → put_mid (point + 1) (point + 1 + places - (point + 1)) pointed fraction ≡ sets buffer 0 (text_of places z))
+      → put_mid (point + 1) (point + 1 + places - (point + 1)) pointed fraction ≡ sets buffer 0 (text_of places z)))
   unfolding text_of decimal
-  text_stored buffer signed number fraction room e f g =
+  text_stored buffer number fraction room e f =
+      let signed = set buffer 0 45 in
       let digits-of-whole = characters (digits 10 (width_of (nat_abs z / 10 ^ places)) (nat_abs z / 10 ^ places)) in
       let rest : List ℕ = 46 ∷ characters (digits 10 places (nat_abs z)) in
       let wide : point - start ≡ width_of (nat_abs z / 10 ^ places) = omega (arith, m.point_is, ap width_of m.whole_is) in
       let long : length digits-of-whole ≡ point - start = omega (arith, length_characters (width_of (nat_abs z / 10 ^ places)) (nat_abs z / 10 ^ places)) in
-      let first : start ≡ 0 + length (sign_of z) = omega (arith, m.start_is) in
       let then : start + length digits-of-whole ≡ point = omega (arith, m.point_is) in
       let after : suc (start + length digits-of-whole) ≡ point + 1 = omega arith in
       let last : point + 1 + places - (point + 1) ≡ places = omega arith in
-      let whole-stored = part_stored signed number start point whole (omega (arith, m.point_is)) (omega (arith, ap length e, length-sets buffer 0 (sign_of z))) f in
+      let whole-stored = part_stored signed number start point whole (omega (arith, m.point_is)) (omega (arith, length-set buffer 0 45)) e in
       let pointed = set (put_mid start (point - start) signed number) point 46 in
-      let room-left : point + 1 + places ≤ length pointed = omega (arith, ap length e, length-sets buffer 0 (sign_of z), ap length whole-stored, length-sets signed start (characters (digits 10 (point - start) whole)), length-set (put_mid start (point - start) signed number) point 46) in
-      part_stored pointed fraction (point + 1) (point + 1 + places) size (omega arith) room-left g
+      let room-left : point + 1 + places ≤ length pointed = omega (arith, length-set buffer 0 45, ap length whole-stored, length-sets signed start (characters (digits 10 (point - start) whole)), length-set (put_mid start (point - start) signed number) point 46) in
+      part_stored pointed fraction (point + 1) (point + 1 + places) size (omega arith) room-left f
       ∙ (λ i. sets (set (whole-stored i) (sym then i) 46) (sym after i) (characters (digits 10 (last i) (m.size_is i))))
-      ∙ (λ i. sets (sets (e i) start (characters (digits 10 (wide i) (m.whole_is i)))) (start + length digits-of-whole) rest)
-      ∙ sym (sets_append (sets buffer 0 (sign_of z)) start digits-of-whole rest)
-      ∙ ap (λ (k : ℕ). sets (sets buffer 0 (sign_of z)) k (digits-of-whole ++ rest)) first
-      ∙ sym (sets_append buffer 0 (sign_of z) (digits-of-whole ++ rest))
+      ∙ (λ i. sets (sets signed start (characters (digits 10 (wide i) (m.whole_is i)))) (start + length digits-of-whole) rest)
+      ∙ sym (sets_append signed start digits-of-whole rest)
+      ∙ ap (λ (k : ℕ). sets signed k (digits-of-whole ++ rest)) m.start_is
+      ∙ minus_covered z buffer (digits-of-whole ++ rest) (omega (arith, length-append digits-of-whole rest))
 
 -- ---- the buffer afterwards, and the answer
 

@@ -1,5 +1,5 @@
--- How many digits a number has, by the power of ten that it reaches: what std says of `ilog10`. Assumes nothing.
-use Rattle.std.proofs.Common.{◌≡◌, refl, sym, ap, ◌∙◌, true, false, cond, Bool, ℕ, zero, suc, ◌+◌, ◌*◌, ◌/◌, ◌^◌, ◌<◌, ◌≤◌, max, ltb, arith, pow-suc}
+-- How many digits a number has, by the power of ten that it reaches, and by four digits at a time. Assumes nothing.
+use Rattle.std.proofs.Common.{◌≡◌, refl, sym, ap, ◌∙◌, true, false, cond, Bool, ℕ, zero, suc, ◌+◌, ◌*◌, ◌/◌, ◌^◌, ◌<◌, ◌≤◌, ltb, arith, pow-suc}
 use Rattle.std.proofs.Math.Nat.{one-le-pow}
 use borrow.Author.Tests.{lt-ltb, le-ltb, ltb-true, ltb-false}
 use Rattle.amounts.specs.Text.{width_in, width_of, EnoughRoom}
@@ -11,7 +11,7 @@ enough_room zero (suc b) n h k = sym (ap (λ (t : Bool). cond t 1 (suc (width_in
 enough_room (suc a) zero n h k = ap (λ (t : Bool). cond t 1 (suc (width_in a (n / 10)))) (lt-ltb n 10 (omega arith))
 enough_room (suc a) (suc b) n h k = ap (λ (w : ℕ). cond (ltb n 10) 1 (suc w)) (enough_room a b (n / 10) (omega arith) (omega arith))
 
-one_digit : (n : ℕ) → n < 10 → width_of n ≡ 1
+pub one_digit : (n : ℕ) → n < 10 → width_of n ≡ 1
 unfolding width_of width_in
 one_digit zero h = refl
 one_digit (suc n) h = ap (λ (t : Bool). cond t 1 (suc (width_in n (suc n / 10)))) (lt-ltb (suc n) 10 h)
@@ -33,12 +33,12 @@ width_by_power (suc k) n h l =
     let more : n / 10 < 10 * 10 ^ k = omega arith in
     omega (arith, more_digits n (omega arith), width_by_power k (n / 10) less more)
 
--- what `ilog10` says of a number gives its digits: of 0, which has one, it is asked as of 1
-pub width_by_ilog10 : (k n most : ℕ) → most ≡ max n 1 → 10 ^ k ≤ most → most < 10 * 10 ^ k → k + 1 ≡ width_of n
-width_by_ilog10 k zero most e h l = omega (arith, width_by_power k most h l, one_digit most (omega arith), one_digit 0 (omega arith))
-width_by_ilog10 k (suc n) most e h l =
-    let same : most ≡ suc n = omega arith in
-    sym (width_by_power k most h l) ∙ ap width_of same
+-- from ten thousand on, the last four digits are counted apart
+pub width_by_fours : (n : ℕ) → 10_000 ≤ n → 4 + width_of (n / 10_000) ≡ width_of n
+width_by_fours n h =
+    let tens : n / 10 / 10 / 10 / 10 ≡ n / 10_000 = omega arith in
+    omega
+    (arith, ap width_of tens, more_digits n (omega arith), more_digits (n / 10) (omega arith), more_digits (n / 10 / 10) (omega arith), more_digits (n / 10 / 10 / 10) (omega arith))
 
 -- a number below 10 to some power has no more digits than that
 pub width_most : (more n : ℕ) → n < 10 ^ suc more → width_of n ≤ suc more

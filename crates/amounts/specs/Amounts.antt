@@ -30,6 +30,3 @@ points_within amount e = in_range_true (neg_ℤ (pos 99999)) (pos 99999) amount.
 
 pub same_cents : {a b : ℤ} → a ≡ b → cents a ≡ cents b
 same_cents e = λ i. cents (e i)
-
-pub same_points : {a b : ℤ} → a ≡ b → points a ≡ points b
-same_points e = λ i. points (e i)

@@ -3,6 +3,7 @@
 
 ghost use Rattle.std.specs.Prelude.{◌≡◌, Bool, List, Some, ℕ, ℤ, ◌≤◌, length};
 ghost use Rattle.std.proofs.Common.{rules};
+ghost use Rattle.refusals.specs.Rows.{stored_or_12};
 ghost use Rattle.amounts.specs.Amounts.{cents_in_limits, points_in_limits};
 ghost use Rattle.amounts.specs.Text.{text_of, cents_text, cents_text_is, points_text, points_text_is, text_written, text_left};
 
@@ -19,6 +20,16 @@ pub trait Stored: Copy {
     // in place of a line.
     fn in_limits(self) -> bool
         ensures { result ≡ within self };
+
+    // Row 12: the value, where a book may store it.
+    final fn stored(self) -> Result<Self, Refusal>
+        ensures { result ≡ stored_or_12 (within self) self }
+    {
+        if !self.in_limits() {
+            return Err(Refusal::NextOutOfLimits);
+        }
+        Ok(self)
+    }
 }
 
 // A stored value that has a text.
@@ -56,9 +67,8 @@ pub trait Amount: Stored {
         if buffer.len() < length {
             return length;
         }
-        if negative {
-            buffer[0] = b'-';
-        }
+        // Where the number is not negative, its first digit goes over the sign: a branch on the sign is hard to guess.
+        buffer[0] = b'-';
         text::put_digits(&mut buffer[start..point], whole);
         buffer[point] = b'.';
         text::put_digits(&mut buffer[point + 1..length], size);

@@ -9,13 +9,18 @@ use crate::Amount;
 use refusals::{Refusal, refuse_if};
 use std::{fmt, str};
 
-// How many digits a whole number has. `as` stands where std has no `from`: a u32 as a usize, a remainder as a byte.
-#[tactic(auto, using(crate::proofs::Widths::width_by_ilog10))]
+// How many digits a whole number has. By cases: std's `ilog10` is known too late for the processor to guess how many digits follow.
 pub(crate) fn width(n: u64) -> usize
     ensures digits { result ≡ width_of n }
     ensures few { result ≤ 20 }
 {
-    n.max(1).ilog10() as usize + 1
+    match n {
+        0..=9 => 1,
+        10..=99 => 2,
+        100..=999 => 3,
+        1_000..=9_999 => 4,
+        _ => 4 + width(n / 10_000),
+    }
 }
 
 // Stores the last digits of n, as many as there is room for, two at a time: std shows digits by a formatter alone, and not the last of them.
@@ -23,6 +28,7 @@ pub(crate) fn put_digits(part: &mut [u8], n: u64)
     ensures { part.new ≡ characters (digits 10 (length part.old) n) }
 {
     if let Some((front, pair)) = part.split_last_chunk_mut() {
+        // std has no `from` of a remainder to a byte.
         let last = (n % 100) as u8;
         *pair = [b'0' + last / 10, b'0' + last % 10];
         put_digits(front, n / 100);

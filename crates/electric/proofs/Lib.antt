@@ -1,4 +1,3 @@
 -- Laws over plain values that the functions' proofs cite.
 pub mod Parts
 pub mod Bills
-pub mod Settling

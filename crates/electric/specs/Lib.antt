@@ -1,2 +1,2 @@
--- What the code's steps pass on; what they mean is said in the rules.
-pub mod Stored
+-- What the code's effects owe; what it means is said in the rules.
+pub mod Taken

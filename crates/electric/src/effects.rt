@@ -1,154 +1,134 @@
-// What a posting does that no row has refused so far, one call a kind: the answer and the next book, whose limits are still to be tested.
-ghost use Rattle.std.specs.Prelude.{◌≡◌};
+// What a posting does that no row before 12 refuses, a call a kind. Each tests the limits of what it changes, stores that in the lent book and
+// answers; or it gives refusal 12, with the book as it was. What it leaves lay within its limits before.
+ghost use Rattle.std.specs.Prelude.{◌≡◌, true, false};
 ghost use Rattle.postings.specs.Ranged.{Ranged};
-ghost use Rattle.riders.specs.Posts.{StoredAs};
-ghost use Rattle.electric_rules.specs.Next.{level_at};
-ghost use Rattle.electric_rules.specs.Ranges.{BookWithin};
-ghost use Rattle.electric.specs.Stored.{effect_at, fits};
+ghost use Rattle.riders.specs.Months.{forbidden};
+ghost use Rattle.electric_rules.specs.Calendar.{settles};
+ghost use Rattle.electric_rules.specs.Limits.{in_limits};
+ghost use Rattle.electric.specs.Taken.{TakenAt};
 
-use crate::levels::{LevelInLimits, MonthEnd};
-use amounts::Cents;
+use crate::levels::{self, LevelInLimits, MonthEnd};
+use amounts::{Cents, Stored};
 use electric_rules::{ElectricBook, Kwh, Period, Sales};
 use postings::kinds::Kind;
-use postings::{Answer, Book, Posted, Posting};
+use postings::{Answer, Book, Posting};
+use refusals::Refusal;
 
-// A posting with the book that it is posted to, which is within its limits. What a kind asks of the posting is no field: each method would have
-// to ask for its kind instead. The steam book has the like, of its own limits.
-#[derive(Clone, Copy)]
-pub(crate) struct Accepted {
-    pub(crate) book: ElectricBook,
-    pub(crate) posting: Posting,
-    ghost book_within: { BookWithin book },
+fn cost(book: &mut ElectricBook, posting: Posting) -> Result<Answer, Refusal>
+    requires { (in_limits book.old ≡ true) × Ranged Book.Electric Kind.Cost posting }
+    ensures { TakenAt Kind.Cost book.old posting result book.new }
+{
+    let cost = Cents(book.period.cost.0 + (posting.first + posting.second + posting.third));
+    book.period.cost = cost.stored()?;
+    Ok(Answer::Done)
 }
 
-impl Accepted {
-    fn cost(self) -> Posted<ElectricBook>
-        requires { Ranged Book.Electric Kind.Cost self.posting }
-        ensures { result ≡ effect_at Kind.Cost self.book self.posting }
-    {
-        let Accepted { book, posting, .. } = self;
-        let cost = Cents(book.period.cost.0 + (posting.first + posting.second + posting.third));
-        let period = Period {
-            cost,
-            ..book.period
-        };
-        riders::done(ElectricBook { period, ..book })
-    }
+fn sales(book: &mut ElectricBook, posting: Posting) -> Result<Answer, Refusal>
+    requires { (in_limits book.old ≡ true) × Ranged Book.Electric Kind.Sales posting }
+    ensures { TakenAt Kind.Sales book.old posting result book.new }
+{
+    let sales = book.period.sales;
+    book.period.sales = Sales {
+        secondary: Kwh(sales.secondary.0 + posting.first).stored()?,
+        primary: Kwh(sales.primary.0 + posting.second).stored()?,
+    };
+    Ok(Answer::Done)
+}
 
-    fn sales(self) -> Posted<ElectricBook>
-        requires { Ranged Book.Electric Kind.Sales self.posting }
-        ensures { result ≡ effect_at Kind.Sales self.book self.posting }
-    {
-        let Accepted { book, posting, .. } = self;
-        let sales = Sales {
-            secondary: Kwh(book.period.sales.secondary.0 + posting.first),
-            primary: Kwh(book.period.sales.primary.0 + posting.second),
-        };
-        let period = Period {
-            sales,
-            ..book.period
-        };
-        riders::done(ElectricBook { period, ..book })
+// The level is billed in its place: taken out and put back, as an adjustment's is, it made every posting slower.
+fn bill(book: &mut ElectricBook, posting: Posting) -> Result<Answer, Refusal>
+    requires { (in_limits book.old ≡ true) × Ranged Book.Electric Kind.Bill posting }
+    ensures { TakenAt Kind.Bill book.old posting result book.new }
+{
+    if posting.first == 0 {
+        levels::bill(&mut book.secondary, posting)
+    } else {
+        levels::bill(&mut book.primary, posting)
     }
+}
 
-    // The level that a bill or an adjustment names.
-    fn level(self) -> LevelInLimits
-        ensures { result.level ≡ level_at self.posting.first self.book }
-    {
-        LevelInLimits {
-            level: self.book.level(self.posting.first),
-        }
-    }
+fn adjust(book: &mut ElectricBook, posting: Posting) -> Result<Answer, Refusal>
+    requires { (in_limits book.old ≡ true) × Ranged Book.Electric Kind.Adjust posting }
+    ensures { TakenAt Kind.Adjust book.old posting result book.new }
+{
+    let level = LevelInLimits {
+        level: book.level(posting.first),
+    };
+    let adjusted = level.adjusted(posting);
+    adjusted.carried.stored()?;
+    *book = book.with_level(posting.first, adjusted);
+    Ok(Answer::Done)
+}
 
-    fn bill(self) -> Posted<ElectricBook>
-        requires { Ranged Book.Electric Kind.Bill self.posting }
-        ensures { result ≡ effect_at Kind.Bill self.book self.posting }
-    {
-        let (line, billed) = self.level().billed(self.posting);
-        Posted {
-            answer: Answer::Line(line),
-            book: self.book.with_level(self.posting.first, billed),
-        }
-    }
+// A month's end moves runs that lay within their limits: only what is carried and accrued can leave them.
+fn month_end(book: &mut ElectricBook, posting: Posting) -> Result<Answer, Refusal>
+    requires { (in_limits book.old ≡ true) × Ranged Book.Electric Kind.MonthEnd posting }
+    ensures { TakenAt Kind.MonthEnd book.old posting result book.new }
+{
+    let month_end = MonthEnd {
+        posting,
+        entering: electric_refusals::calendar::entering(book.month),
+    };
+    // Each level is named where its limits are shown, here and in the settlement.
+    let on_secondary = LevelInLimits {
+        level: book.secondary,
+    };
+    let on_primary = LevelInLimits {
+        level: book.primary,
+    };
+    let (secondary_interest, secondary) = on_secondary.ended(month_end)?;
+    let (primary_interest, primary) = on_primary.ended(month_end)?;
+    book.month = riders::months::month_after(book.month);
+    book.settled = false;
+    book.secondary = secondary;
+    book.primary = primary;
+    Ok(Answer::Interest(secondary_interest, primary_interest))
+}
 
-    fn adjustment(self) -> Posted<ElectricBook>
-        requires { Ranged Book.Electric Kind.Adjust self.posting }
-        ensures { result ≡ effect_at Kind.Adjust self.book self.posting }
-    {
-        let adjusted = self.level().adjusted(self.posting);
-        riders::done(self.book.with_level(self.posting.first, adjusted))
-    }
+fn settle(book: &mut ElectricBook, posting: Posting) -> Result<Answer, Refusal>
+    requires { (in_limits book.old ≡ true) × Ranged Book.Electric Kind.Settle posting × (settles book.old.month ≡ true) }
+    ensures { TakenAt Kind.Settle book.old posting result book.new }
+{
+    let rates = electric_settlement::rates_of(book.division);
+    let shares = electric_settlement::shares_of(rates, book.period);
+    let on_secondary = LevelInLimits {
+        level: book.secondary,
+    };
+    let on_primary = LevelInLimits {
+        level: book.primary,
+    };
+    let secondary = on_secondary.filing_of(shares.secondary, Kwh(posting.first))?;
+    let primary = on_primary.filing_of(shares.primary, Kwh(posting.second))?;
+    book.settled = true;
+    book.period = Period {
+        cost: Cents(0),
+        sales: Sales {
+            secondary: Kwh(0),
+            primary: Kwh(0),
+        },
+        remainder: shares.remainder,
+    };
+    book.secondary = levels::filed(secondary, book.secondary);
+    book.primary = levels::filed(primary, book.primary);
+    Ok(Answer::FiledLevels(secondary.factor, primary.factor))
+}
 
-    fn month_end(self) -> Posted<ElectricBook>
-        requires { Ranged Book.Electric Kind.MonthEnd self.posting }
-        ensures { result ≡ effect_at Kind.MonthEnd self.book self.posting }
-    {
-        let Accepted { book, posting, .. } = self;
-        let month_end = MonthEnd {
-            posting,
-            entering: electric_refusals::calendar::entering(book.month),
-        };
-        // Each level is named where its limits are shown, here and in the settlement.
-        let on_secondary = LevelInLimits {
-            level: book.secondary,
-        };
-        let on_primary = LevelInLimits {
-            level: book.primary,
-        };
-        let (secondary_interest, secondary) = on_secondary.ended(month_end);
-        let (primary_interest, primary) = on_primary.ended(month_end);
-        Posted {
-            answer: Answer::Interest(secondary_interest, primary_interest),
-            book: ElectricBook {
-                month: riders::months::month_after(book.month),
-                settled: false,
-                secondary,
-                primary,
-                ..book
-            },
-        }
-    }
-
-    // A run that no book may store is filed as another such, so the book is stored or refused as the rules' own would be.
-    fn settlement(self) -> Posted<ElectricBook>
-        requires { Ranged Book.Electric Kind.Settle self.posting }
-        ensures { StoredAs fits result (effect_at Kind.Settle self.book self.posting) }
-    {
-        let Accepted { book, posting, .. } = self;
-        let rates = electric_settlement::rates_of(book.division);
-        let shares = electric_settlement::shares_of(rates, book.period);
-        let on_secondary = LevelInLimits {
-            level: book.secondary,
-        };
-        let on_primary = LevelInLimits {
-            level: book.primary,
-        };
-        let secondary = on_secondary.filing_of(shares.secondary, Kwh(posting.first));
-        let primary = on_primary.filing_of(shares.primary, Kwh(posting.second));
-        Posted {
-            answer: Answer::FiledLevels(secondary.factor, primary.factor),
-            book: crate::filing::settled_with(
-                book,
-                shares.remainder,
-                crate::filing::filed_level(secondary, book.secondary),
-                crate::filing::filed_level(primary, book.primary),
-            ),
-        }
-    }
-
-    // The effect of the posting, by its kind; that of a kind which no book has, or steam's alone, is none.
-    pub(crate) fn effect(self, kind: Kind) -> Posted<ElectricBook>
-        requires { Ranged Book.Electric kind self.posting }
-        ensures { StoredAs fits result (effect_at kind self.book self.posting) }
-    {
-        match kind {
-            Kind::Cost => self.cost(),
-            Kind::Sales => self.sales(),
-            Kind::Bill => self.bill(),
-            Kind::Settle => self.settlement(),
-            Kind::MonthEnd => self.month_end(),
-            Kind::Adjust => self.adjustment(),
-            Kind::Reconcile | Kind::Unknown => riders::done(self.book),
-        }
+// By the kind of the posting; one of a kind that no book has, or steam's alone, does nothing.
+pub(crate) fn effect(
+    book: &mut ElectricBook,
+    kind: Kind,
+    posting: Posting,
+) -> Result<Answer, Refusal>
+    requires { (in_limits book.old ≡ true) × Ranged Book.Electric kind posting × (forbidden kind (settles book.old.month) book.old.settled ≡ false) }
+    ensures { TakenAt kind book.old posting result book.new }
+{
+    match kind {
+        Kind::Cost => cost(book, posting),
+        Kind::Sales => sales(book, posting),
+        Kind::Bill => bill(book, posting),
+        Kind::Settle => settle(book, posting),
+        Kind::MonthEnd => month_end(book, posting),
+        Kind::Adjust => adjust(book, posting),
+        Kind::Reconcile | Kind::Unknown => Ok(Answer::Done),
     }
 }

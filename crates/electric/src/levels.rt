@@ -1,19 +1,24 @@
 // A level within its limits, and what bill, adjust, settle and month end make of it.
-ghost use Rattle.std.specs.Prelude.{◌≡◌, pos};
+ghost use Rattle.std.specs.Prelude.{◌≡◌, true, pos};
 ghost use Rattle.ints.specs.Range.{Within};
 ghost use Rattle.rounding.specs.Round.{round};
+ghost use Rattle.refusals.specs.Rows.{stored_or_12};
 ghost use Rattle.amounts.specs.Amounts.{cents};
 ghost use Rattle.postings.specs.Ranged.{Ranged};
 ghost use Rattle.postings.specs.declared.kinds.Kind.TheVariants.{MonthEnd as MonthEndKind};
 ghost use Rattle.postings.specs.declared.Book.TheVariants.{Electric};
-ghost use Rattle.riders.specs.Runs.{due_less, filed_run, RunWithin};
-ghost use Rattle.electric_rules.specs.Levels.{level_line, billed_level, adjusted_level, owed_by, bearing_of, interest_on, accrued_level, handed_over};
+ghost use Rattle.postings.specs.declared.Answer.TheVariants.{Line};
+ghost use Rattle.riders.specs.Posts.{TakenWithin};
+ghost use Rattle.riders.specs.Runs.{due_less, filed_run, run_in_limits, RunWithin};
+ghost use Rattle.electric_rules.specs.Levels.{level_line, billed_level, adjusted_level, filed_level, owed_by, bearing_of, interest_on, accrued_level, handed_over};
+ghost use Rattle.electric_rules.specs.Limits.{level_in_limits};
 ghost use Rattle.electric_rules.specs.Ranges.{LevelWithin};
 
-use amounts::{Cents, Points};
+use amounts::{Cents, Points, Stored};
 use electric_rules::{EnteringRun, Kwh, Level};
 use postings::kinds::Kind;
-use postings::{Book, Posting};
+use postings::{Answer, Book, Posting};
+use refusals::Refusal;
 use riders::Run;
 
 // Millionths of a year's rate to a month's.
@@ -22,6 +27,8 @@ const MONTHLY: i64 = 12_000_000;
 #[derive(Clone, Copy)]
 pub(crate) struct LevelInLimits {
     pub(crate) level: Level,
+    ghost in_limits: { level_in_limits level ≡ true },
+    // The same by amount.
     ghost within: { LevelWithin level },
 }
 
@@ -66,10 +73,10 @@ impl LevelInLimits {
         }
     }
 
-    // What the level owes, with the factor that is to bring it in over the estimated sales.
-    pub(crate) fn filing_of(self, share: Cents, estimate: Kwh) -> Run
+    // What the level owes, with the factor that is to bring it in over the estimated sales; or refusal 12.
+    pub(crate) fn filing_of(self, share: Cents, estimate: Kwh) -> Result<Run, Refusal>
         requires { Within 20000000000000 share.0 }
-        ensures { result ≡ filed_run (owed_by share.0 self.level) estimate.0 }
+        ensures { result ≡ stored_or_12 (run_in_limits (filed_run (owed_by share.0 self.level) estimate.0)) (filed_run (owed_by share.0 self.level) estimate.0) }
     {
         let owed = Cents(share.0 + self.level.carried.0 + self.level.interest.0);
         Run::filed(owed, estimate.0)
@@ -87,17 +94,42 @@ impl LevelInLimits {
         Cents(rounding::round_div(month_end.posting.first * balance, MONTHLY))
     }
 
-    // A month's interest, and the level at the month's end: that interest accrued, then the handover.
-    pub(crate) fn ended(self, month_end: MonthEnd) -> (Cents, Level)
-        ensures { result ≡ (cents (interest_on month_end.posting.first (bearing_of self.level)), handed_over month_end.entering (accrued_level month_end.posting.first self.level)) }
+    // The level at a month's end: that interest accrued, then the handover.
+    fn after(self, month_end: MonthEnd, interest: Cents) -> Level
+        requires { interest ≡ cents (interest_on month_end.posting.first (bearing_of self.level)) }
+        ensures { result ≡ handed_over month_end.entering (accrued_level month_end.posting.first self.level) }
     {
-        let interest = self.interest(month_end);
         let accrued = Level {
             interest: Cents(self.level.interest.0 + interest.0),
             ..self.level
         };
-        (interest, handed_over(month_end.entering, accrued))
+        handed_over(month_end.entering, accrued)
     }
+
+    // A month's interest, and the level at the month's end; or refusal 12. Its runs lay within their limits before.
+    pub(crate) fn ended(self, month_end: MonthEnd) -> Result<(Cents, Level), Refusal>
+        ensures { result ≡ stored_or_12 (level_in_limits (handed_over month_end.entering (accrued_level month_end.posting.first self.level))) (cents (interest_on month_end.posting.first (bearing_of self.level)), handed_over month_end.entering (accrued_level month_end.posting.first self.level)) }
+    {
+        let interest = self.interest(month_end);
+        let next = self.after(month_end, interest);
+        next.carried.stored()?;
+        next.interest.stored()?;
+        Ok((interest, next))
+    }
+}
+
+// Bills the level: its line, with each run's part of it taken from its due cents; or refusal 12.
+pub(crate) fn bill(level: &mut Level, posting: Posting) -> Result<Answer, Refusal>
+    requires { (level_in_limits level.old ≡ true) × Ranged Book.Electric Kind.Bill posting }
+    ensures { TakenWithin (level_in_limits (billed_level posting.second level.old)) (Line (cents (level_line posting.second level.old))) (billed_level posting.second level.old) level.old result level.new }
+{
+    let found = LevelInLimits { level: *level };
+    let (line, billed) = found.billed(posting);
+    let first = billed.first.due.stored()?;
+    let second = billed.second.due.stored()?;
+    level.first.due = first;
+    level.second.due = second;
+    Ok(Answer::Line(line))
 }
 
 // So many points, times kWh, in whole cents: a name for the unit, as each call that rounds has its own.
@@ -135,5 +167,17 @@ fn handed_over(entering: Option<EnteringRun>, level: Level) -> Level
             second: level.pending,
             ..level
         },
+    }
+}
+
+// The level with its filing pending, and nothing carried or accrued.
+pub(crate) fn filed(filing: Run, level: Level) -> Level
+    ensures { result ≡ filed_level filing level }
+{
+    Level {
+        carried: Cents(0),
+        interest: Cents(0),
+        pending: filing,
+        ..level
     }
 }

@@ -5,7 +5,7 @@ use Rattle.amounts.specs.Amounts.{cents}
 use Rattle.amounts.specs.declared.Points.{Points}
 use Rattle.riders.specs.Lines.{line_of, part_of}
 use Rattle.riders.specs.declared.Run.{Run}
-use Rattle.riders.specs.Runs.{run, no_run, due_less, factor_for}
+use Rattle.riders.specs.Runs.{no_run, due_less, filed_run}
 use Rattle.electric_rules.specs.declared.EnteringRun.{EnteringRun}
 use Rattle.electric_rules.specs.declared.EnteringRun.TheVariants.{First, Second}
 use Rattle.electric_rules.specs.declared.Level.{Level}
@@ -51,7 +51,7 @@ filed_level filed l = level_of (pos 0) (pos 0) filed l.first l.second
 
 -- q = round(100 × Q / estimated sales)
 abbrev pub settled_level : ℤ → ℤ → Level → Level
-settled_level share estimate l = filed_level (run (factor_for (owed_by share l) estimate) (owed_by share l)) l
+settled_level share estimate l = filed_level (filed_run (owed_by share l) estimate) l
 
 -- ---- month end, at a yearly rate in millionths
 

@@ -37,7 +37,7 @@ kwh_within sales e = in_range_true (pos 0) (pos 10000000000) sales.0 e
 remainder_within : (rem : Remainder) → remainder_in_limits rem ≡ true → Within 50000 rem.0
 remainder_within rem e = in_range_true (neg_ℤ (pos 50000)) (pos 50000) rem.0 e
 
-level_within : (l : Level) → level_in_limits l ≡ true → LevelWithin l
+pub level_within : (l : Level) → level_in_limits l ≡ true → LevelWithin l
 level_within l e =
     let c = both (cents_in_limits l.carried) _ e in
     let i = both (cents_in_limits l.interest) _ c.1 in

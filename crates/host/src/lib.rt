@@ -8,14 +8,15 @@ ghost use Rattle.rounding.specs.Weight.{weight_or0};
 ghost use Rattle.amounts.specs.Text.{cents_text, points_text, text_written, text_left};
 ghost use Rattle.records.specs.Records.{read_of, record_written, record_left};
 ghost use Rattle.host.specs.Books.{book_of};
-ghost use Rattle.host.specs.Results.{read_at, written_as};
+ghost use Rattle.host.specs.Results.{read_at};
+ghost use Rattle.replies.specs.Results.{written_as};
 
 use amounts::{Amount, Cents, Points};
 use postings::{Book, Posting};
-use results::{Read, Written};
+use replies::Written;
+use results::Read;
 
 mod electric_book;
-mod journal_text;
 mod results;
 mod steam_book;
 

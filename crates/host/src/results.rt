@@ -2,7 +2,7 @@
 ghost use Rattle.std.specs.Prelude.{◌≡◌};
 ghost use Rattle.postings.specs.Answers.{answer_number};
 ghost use Rattle.host.specs.Replies.{line_in};
-ghost use Rattle.host.specs.Results.{read_at, written_as};
+ghost use Rattle.host.specs.Results.{read_at};
 
 use amounts::Cents;
 use postings::{Answer, Posting};
@@ -29,28 +29,6 @@ pub(crate) fn line_in(answer: Result<Answer, Refusal>) -> Cents
     }
 }
 
-// 0 and how many bytes a writer wrote, or document 01's number of the refusal and 0.
-#[repr(C)]
-#[derive(Clone, Copy)]
-pub struct Written {
-    pub number: u8,
-    pub length: usize,
-}
-
-impl From<Result<usize, Refusal>> for Written {
-    ghost from_gives = { λ answer written. written ≡ written_as answer };
-
-    fn from(answer: Result<usize, Refusal>) -> Written {
-        match answer {
-            Ok(length) => Written { number: 0, length },
-            Err(refusal) => Written {
-                number: refusal.number(),
-                length: 0,
-            },
-        }
-    }
-}
-
 // What reading at a place gives: 0, the next place and the posting; or the number of a refusal, the place, and a posting of kind 0,
 // which is a kind of no book.
 #[repr(C)]
@@ -61,24 +39,36 @@ pub struct Read {
     pub posting: Posting,
 }
 
+// What a host is handed where no record was read.
+const NO_POSTING: Posting = Posting {
+    kind: 0,
+    first: 0,
+    second: 0,
+    third: 0,
+};
+
 pub(crate) fn read_at(place: usize, found: Result<Found, Refusal>) -> Read
     ensures { result ≡ read_at place found }
 {
-    match found {
-        Ok(found) => Read {
-            number: 0,
-            place: found.place,
-            posting: found.posting,
-        },
-        Err(refusal) => Read {
-            number: refusal.number(),
-            place,
-            posting: Posting {
-                kind: 0,
-                first: 0,
-                second: 0,
-                third: 0,
-            },
+    let (number, place, posting) = match found {
+        Ok(found) => (0, found.place, found.posting),
+        Err(refusal) => (refusal.number(), place, NO_POSTING),
+    };
+    // Field by field: a move of the whole would copy the bytes between its fields too, which waits for them to be stored.
+    let Posting {
+        kind,
+        first,
+        second,
+        third,
+    } = posting;
+    Read {
+        number,
+        place,
+        posting: Posting {
+            kind,
+            first,
+            second,
+            third,
         },
     }
 }

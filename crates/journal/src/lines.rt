@@ -8,9 +8,10 @@ use crate::pieces::Piece;
 use postings::Answer;
 use refusals::Refusal;
 
+// All of a line is inlined into the loop over the records, where each word is known and the page stands in registers.
 impl Page<'_> {
     // A word, with the blank behind it, and what it is said of.
-    #[inline]
+    #[inline(always)]
     fn put_one<T: Piece>(&mut self, word: &[u8], piece: T)
         requires { self.old.used + length word.now + T.most < 2 ^ 64 }
         ensures { Prints (word.now ++ T.text piece) (length word.now + T.most) self.old self.new }
@@ -20,7 +21,7 @@ impl Page<'_> {
     }
 
     // The same of both levels, parted by a blank.
-    #[inline]
+    #[inline(always)]
     fn put_both<T: Piece>(&mut self, word: &[u8], secondary: T, primary: T)
         requires { self.old.used + length word.now + 2 * T.most + 1 < 2 ^ 64 }
         ensures { Prints (word.now ++ T.text secondary ++ ascii " " ++ T.text primary) (length word.now + 2 * T.most + 1) self.old self.new }
@@ -29,7 +30,7 @@ impl Page<'_> {
         self.put_one(b" ", primary);
     }
 
-    #[inline]
+    #[inline(always)]
     fn put_answer(&mut self, answer: Result<Answer, Refusal>)
         requires { self.old.used ≤ 2 ^ 32 + 24 }
         ensures { Prints (answer_text answer) 58 self.old self.new }
@@ -50,6 +51,7 @@ impl Page<'_> {
 
     // The line of a record: its number, its kind and the answer. The kind is a number, since the line says what the record does, a kind
     // that is in no book too.
+    #[inline(always)]
     pub(crate) fn put_line(&mut self, number: u32, kind: u8, answer: Result<Answer, Refusal>)
         requires { self.old.used ≤ 2 ^ 32 }
         ensures { Prints (record_line number kind answer) 82 self.old self.new }

@@ -25,14 +25,17 @@ pub struct Found {
 pub fn read_field(bytes: &[u8], place: usize) -> i64
     ensures { result ≡ field_or0 (drop place bytes.now) }
 {
-    fields::split_field(parts::rest(bytes, place)).map_or(0, |(number, _)| number)
+    let rest = parts::rest(bytes, place).unwrap_or(&[]);
+    fields::split_field(rest).map_or(0, |(number, _)| number)
 }
 
-// Reads the record at a place of the bytes. A place and no slice: the C call hands it in, and gets the next one back.
+// Reads the record at a place of the bytes. A place and no slice: the C call hands it in, and gets the next one back. Inlined into the loop over
+// a journal's records, where the book is known.
+#[inline(always)]
 pub fn read_record(book: Book, bytes: &[u8], place: usize) -> Result<Found, Refusal>
     ensures { result ≡ read_of book bytes.now place }
 {
-    let record = parts::rest(bytes, place);
+    let record = parts::rest(bytes, place).ok_or(Refusal::NoRecord)?;
     let [kind, bitmap, fields @ ..] = record else {
         return Err(Refusal::NoRecord);
     };

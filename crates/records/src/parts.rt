@@ -9,11 +9,11 @@ ghost use Rattle.records.specs.Steps.{Finds, posting_in};
 use crate::fields;
 use postings::Posting;
 
-// The bytes from a place on: what the calls that take a place go on with.
-pub(crate) fn rest(bytes: &[u8], place: usize) -> &[u8]
-    ensures { result.now ≡ drop place bytes.now }
+// The bytes from a place on, where it is none past the end: what the calls that take a place go on with.
+pub(crate) fn rest(bytes: &[u8], place: usize) -> Option<&[u8]>
+    ensures { MatchOption result (length bytes.now < place) (λ rest. rest.now ≡ drop place bytes.now) }
 {
-    bytes.get(place..).unwrap_or(&[])
+    bytes.get(place..)
 }
 
 // The ones of the bit map are the record's fields. std has no `from` of a u32 for a usize.

@@ -4,9 +4,10 @@ use Rattle.std.specs.Result.{result_err}
 use Rattle.std.proofs.Math.Path.{refl, sym}
 use Rattle.std.proofs.Common.{ap, ◌∙◌}
 use Rattle.std.proofs.lemmas.Option.{none-some, same_Some}
-use Rattle.refusals.specs.Rows.{Row, row, refusal_by, given_by, by_table, number_of, refused_number}
+use Rattle.refusals.specs.Rows.{Row, row, refusal_by, given_by, by_table, number_of, refused_number, stored_or_12}
 use Rattle.refusals.specs.Laws.{NoneHolds, First}
 use Rattle.refusals.specs.declared.Refusal.{Refusal}
+use Rattle.refusals.specs.declared.Refusal.TheVariants.{NextOutOfLimits}
 
 -- ---- the first row that holds
 
@@ -156,3 +157,12 @@ row_refused refusal asked condition {other} e = go condition e
 
 pub row_refuses : {A : Type 0} (refusal : Refusal) (asked : A) (condition : Bool) {other : Refusal} → by_table {A = Result A Refusal} (row refusal condition ∷ []) (Ok asked) Err ≡ Err other → other ≡ refusal
 row_refuses refusal asked condition e = (row_refused refusal asked condition (sym e)).1
+
+-- what a result of row 12 tells of the limits
+pub stored_within : {A : Type 0} (within : Bool) (value : A) {stored : A} → Ok stored ≡ stored_or_12 within value → (within ≡ true) × (stored ≡ value)
+stored_within true value e = (refl, cc)
+stored_within false value e = cc
+
+pub refused_within : {A : Type 0} (within : Bool) (value : A) {refusal : Refusal} → Err refusal ≡ stored_or_12 within value → (within ≡ false) × (refusal ≡ NextOutOfLimits)
+refused_within true value e = cc
+refused_within false value e = (refl, cc)

@@ -1,6 +1,6 @@
 -- A refusal table (01, Refusals in order of checking): rows of a refusal and of the condition under which it is returned, in the order
 -- of checking.
-use Rattle.std.specs.Prelude.{Bool, cond, List, [], ◌∷◌, ℕ, eqb, Option, Some, None}
+use Rattle.std.specs.Prelude.{Bool, cond, List, [], ◌∷◌, ℕ, eqb, Option, Some, None, Result, Ok, Err}
 use Rattle.refusals.specs.declared.Refusal.{Refusal}
 use Rattle.refusals.specs.declared.Refusal.TheVariants.{NoRecord, UnknownKind, StrayNumber, RecordCutShort, ZeroPresent, BookOutOfLimits, OutOfRange, Forbidden, StillRuns, NothingSold, TooSmall, NextOutOfLimits, BufferTooShort}
 
@@ -50,3 +50,7 @@ refused_number (Some refusal) = number_of refusal
 unfoldable pub before : Refusal → List Row → List Row
 before refusal [] = []
 before refusal (r ∷ rows) = cond (eqb (number_of r.refusal) (number_of refusal)) [] (r ∷ before refusal rows)
+
+-- row 12 alone: what is to be stored, where it lies within its limits
+abbrev pub stored_or_12 : {A : Type 0} → Bool → A → Result A Refusal
+stored_or_12 within value = cond within (Ok value) (Err NextOutOfLimits)

@@ -1,3 +1,2 @@
--- Laws of the definitions in specs/ that a changed definition would break, and what the code's narrowing of a quotient gives.
+-- Laws of the definitions in specs/ that a changed definition would break.
 pub mod PostLaws
-pub mod Narrowing

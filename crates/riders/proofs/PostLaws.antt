@@ -1,5 +1,5 @@
--- What a posting gives, as the code works it out: the rows before 12, then the effect, then the limits of the next book. For any book whose
--- table ends in row 12. Assumes nothing.
+-- What a posting gives, as the code works it out: the rows before 12, then the effect, which tests row 12 by the parts that it changes. For any
+-- book whose table ends in row 12. Assumes nothing.
 use Rattle.std.specs.Prelude.{◌≡◌, refl, Bool, true, false, Option, Some, None, Result, Ok, Err}
 use Rattle.std.proofs.Math.Path.{sym}
 use Rattle.std.proofs.Common.{ap, ◌∙◌, subst}
@@ -9,14 +9,12 @@ use Rattle.refusals.specs.Rows.{row, refusal_by, before, by_table, given_by}
 use Rattle.refusals.specs.declared.Refusal.{Refusal}
 use Rattle.refusals.specs.declared.Refusal.TheVariants.{NextOutOfLimits}
 use Rattle.refusals.proofs.TableLaws.{at_row, past_row, decided_earlier, decided_later, gives_asked, gives_refusal, table_accepts, table_refuses}
-use Rattle.postings.specs.Kinds.{kind_of, unknown_kind}
-use Rattle.postings.specs.Ranged.{Ranged}
+use Rattle.postings.specs.Kinds.{kind_of}
 use Rattle.postings.specs.declared.kinds.Kind.{Kind}
 use Rattle.postings.specs.declared.Answer.{Answer}
-use Rattle.postings.specs.declared.Book.{Book}
 use Rattle.postings.specs.declared.Posted.{Posted}
 use Rattle.postings.specs.declared.Posting.{Posting}
-use Rattle.riders.specs.Posts.{StoredAs}
+use Rattle.riders.specs.Posts.{TakenWithin}
 use Rattle.riders.specs.Rules.{Rules, posted, answer_given, book_given, given_as, answered_by, left_by, given_of, answered_given, left_given}
 
 -- ---- by the table: a row before 12 refuses, or 12 does, or the next book is stored
@@ -82,23 +80,25 @@ module _ {Held : Type 0} (rules : Rules Held) (b : Held) (p : Posting) where
       pub refused_early : {refusal : Refusal} → Err refusal ≡ by_rows → Taken (Err refusal) b
       refused_early e = taken (refused_before rules b p in_limits table _ (table_refuses _ _ e))
 
-      module _ (kinds : Book) (shown : refusal_by (before NextOutOfLimits (rules.rows b p)) ≡ None → (in_limits b ≡ true) × Ranged kinds (kind_of p.kind) p × (unknown_kind kinds p.kind ≡ false)) {kind : Kind} (e : Ok kind ≡ by_rows) where
+      module _ {kind : Kind} (e : Ok kind ≡ by_rows) where
         accepted : (refusal_by (before NextOutOfLimits (rules.rows b p)) ≡ None) × (kind ≡ kind_of p.kind)
         accepted = table_accepts _ _ e
 
-        -- what the effect may rely on
-        pub found_within : in_limits b ≡ true
-        found_within = (shown accepted.0).0
+        -- what the rows before have shown of the posting's kind
+        pub known : (Shown : Kind → Type 0) → (refusal_by (before NextOutOfLimits (rules.rows b p)) ≡ None → Shown (kind_of p.kind)) → Shown kind
+        known Shown shown = subst Shown (sym accepted.1) (shown accepted.0)
 
-        pub ranged : Ranged kinds kind p
-        ranged = subst (λ (k : Kind). Ranged kinds k p) (sym accepted.1) (shown accepted.0).1
+        -- and what the effect owes: the answer and the next book of the kind, or row 12's refusal
+        module _ (answer : Kind → Answer) (next : Kind → Held) (own : (answer (kind_of p.kind) ≡ rules.answer b p) × (next (kind_of p.kind) ≡ rules.next b p)) where
+          pub decided : {result : Result Answer Refusal} {left : Held} → TakenWithin (in_limits (next kind)) (answer kind) (next kind) b result left → Taken result left
+          decided {result} {left} h = go (in_limits (rules.next b p)) refl (subst (λ (n : Held). TakenWithin (in_limits n) (rules.answer b p) n b result left) next_is (subst (λ (a : Answer). TakenWithin (in_limits (next kind)) a (next kind) b result left) answer_is h))
+            where
+              answer_is : answer kind ≡ rules.answer b p
+              answer_is = ap answer accepted.1 ∙ own.0
 
-        module _ (effect : Kind → Posted Held) (own : effect (kind_of p.kind) ≡ posted (rules.answer b p) (rules.next b p)) {r : Posted Held} (as_stored : StoredAs (λ (given : Posted Held). in_limits given.book) r (effect kind)) where
-          by_own : StoredAs (λ (given : Posted Held). in_limits given.book) r (posted (rules.answer b p) (rules.next b p))
-          by_own = subst (λ (given : Posted Held). StoredAs (λ (given : Posted Held). in_limits given.book) r given) (ap effect accepted.1 ∙ own) as_stored
+              next_is : next kind ≡ rules.next b p
+              next_is = ap next accepted.1 ∙ own.1
 
-          pub refused_late : in_limits r.book ≡ false → Taken (Err NextOutOfLimits) b
-          refused_late f = taken (refused_12 rules b p in_limits table accepted.0 (sym by_own.alike ∙ f))
-
-          pub stored_in_limits : in_limits r.book ≡ true → Taken (Ok r.answer) r.book
-          stored_in_limits f = taken (ap Ok (by_own.same f) ∙ stored rules b p in_limits table accepted.0 (sym by_own.alike ∙ f))
+              go : (within : Bool) → in_limits (rules.next b p) ≡ within → TakenWithin within (rules.answer b p) (rules.next b p) b result left → Taken result left
+              go true e h = let t = taken (stored rules b p in_limits table accepted.0 e) in (h.0 ∙ t.0, h.1 ∙ t.1)
+              go false e h = let t = taken (refused_12 rules b p in_limits table accepted.0 e) in (h.0 ∙ t.0, h.1 ∙ t.1)

@@ -1,10 +1,11 @@
 -- The months of both books (01, Electric book and Steam book, Settle and Month end; Refusals, 6 and 8), by whether a month settles, which
--- each book says for itself. Laws: what an accepted settlement or month end finds. Assumes nothing.
+-- each book says for itself. Laws: which months are within the limits, and what an accepted settlement
+-- or month end finds. Assumes nothing.
 use Rattle.std.specs.Prelude.{◌≡◌, Bool, cond, ◌&&◌, ◌||◌, ℕ, ◌+◌, ◌≤◌, leb, ltb}
 use Rattle.std.proofs.Math.Path.{refl, sym}
 use Rattle.std.proofs.Math.Bool.{true, false, not}
-use Rattle.std.proofs.Common.{true≢false}
-use borrow.Author.Tests.{not-false, leb-true}
+use Rattle.std.proofs.Common.{arith, true≢false}
+use borrow.Author.Tests.{not-false, leb-true, ltb-true, le-leb}
 use Rattle.ints.specs.Flags.{both}
 use Rattle.postings.specs.declared.kinds.Kind.{Kind}
 use Rattle.postings.specs.declared.kinds.Kind.TheVariants.{Cost, Sales, Bill, Settle, MonthEnd, Adjust, Reconcile, Unknown}
@@ -27,6 +28,26 @@ forbidden MonthEnd settles settled = settles && not settled
 forbidden Adjust settles settled = false
 forbidden Reconcile settles settled = false
 forbidden Unknown settles settled = false
+
+-- ---- which months are within the limits
+
+-- the month after any other, not settled
+pub next_month : (month : ℕ) (settles : Bool) → month_in_limits (month_after month) settles false ≡ true
+unfolding month_in_limits month_after
+next_month month settles = go (ltb month 12) refl
+  where
+    go : (t : Bool) → ltb month 12 ≡ t → leb 1 (cond t (month + 1) 1) && (leb (cond t (month + 1) 1) 12 && true) ≡ true
+    go true e =
+        let l = ltb-true month 12 e in
+        simp (le-leb 1 (month + 1) (omega arith), le-leb (month + 1) 12 (omega arith))
+    go false e = refl
+
+-- a month that settles, settled
+pub settled_month : (month : ℕ) (settles settled : Bool) → month_in_limits month settles settled ≡ true → settles ≡ true → month_in_limits month settles true ≡ true
+unfolding month_in_limits
+settled_month month settles settled e s =
+    let from = both (leb 1 month) _ e in
+    simp (from.0, (both (leb month 12) _ from.1).0, s)
 
 -- ---- what an accepted posting finds
 

@@ -1,19 +1,15 @@
-// What the riders of both books share: runs, the months of a year, and what is said of a posting that has no figures to answer.
+// What the riders of both books share: runs, and the months of a year.
 #![tactic(auto)]
 
 ghost use Rattle.std.specs.Prelude.{◌≡◌};
-ghost use Rattle.amounts.specs.Amounts.{points};
-ghost use Rattle.postings.specs.declared.Answer.TheVariants.{Done};
-ghost use Rattle.riders.specs.Rules.{posted};
-ghost use Rattle.riders.specs.Runs.{no_run, narrowed, filed_run, run_in_limits};
+ghost use Rattle.refusals.specs.Rows.{stored_or_12};
+ghost use Rattle.amounts.specs.Amounts.{points, points_in_limits};
+ghost use Rattle.riders.specs.Runs.{no_run, filed_run, run_in_limits};
 
 use amounts::{Cents, Points, Stored};
-use postings::{Answer, Posted};
+use refusals::Refusal;
 
 pub mod months;
-
-// A factor one past the most, which no book stores.
-const BEYOND: i32 = Points::MOST + 1;
 
 // A factor and the cents that are due under it: document 01's f and d, or q and Q while it is pending.
 #[repr(C)]
@@ -34,21 +30,25 @@ impl Run {
         }
     }
 
-    // What is filed for cents owed: those cents, and the factor that is to bring them in over these sales. Where a book may store the one or
-    // the other not, the run is one that it may not store either. No Option: row 12 asks it of the next book, and other rows come before.
-    pub fn filed(owed: Cents, sales: i64) -> Run
-        ensures { result ≡ filed_run owed.0 sales }
+    // What is filed for cents owed: those cents, and the factor that is to bring them in over these sales; or refusal 12, where a book may not
+    // store the one or the other.
+    pub fn filed(owed: Cents, sales: i64) -> Result<Run, Refusal>
+        ensures { result ≡ stored_or_12 (run_in_limits (filed_run owed.0 sales)) (filed_run owed.0 sales) }
     {
-        let due = Cents(owed.0);
-        if !owed.in_limits() {
-            return Run {
-                factor: Points(BEYOND),
-                due,
-            };
-        }
-        let quotient = Quotient(rounding::round_div(Points::TO_A_CENT * owed.0, sales));
-        let factor = quotient.factor();
-        Run { factor, due }
+        let due = owed.stored()?;
+        let quotient = rounding::round_div(Points::TO_A_CENT * due.0, sales);
+        let factor = factor_of(quotient)?;
+        Ok(Run { factor, due })
+    }
+}
+
+// The quotient as a factor, where a book may store it; of those that have no room in a factor it may store none.
+fn factor_of(quotient: i64) -> Result<Points, Refusal>
+    ensures { result ≡ stored_or_12 (points_in_limits (points quotient)) (points quotient) }
+{
+    match i32::try_from(quotient) {
+        Ok(factor) => Points(factor).stored(),
+        Err(_) => Err(Refusal::NextOutOfLimits),
     }
 }
 
@@ -58,32 +58,5 @@ impl Stored for Run {
     #[tactic(auto, unfolding(crate::specs::Runs::run_in_limits))]
     fn in_limits(self) -> bool {
         self.factor.in_limits() & self.due.in_limits()
-    }
-}
-
-// A factor before it is known to be one that a book may store.
-#[derive(Clone, Copy)]
-struct Quotient(i64);
-
-impl Quotient {
-    // The factor, or one past the limits, so that the next book is refused as it would be with the factor itself.
-    fn factor(self) -> Points
-        ensures { result ≡ points (narrowed self.0) }
-    {
-        let factor = Points(i32::try_from(self.0).unwrap_or(BEYOND));
-        if factor.in_limits() {
-            return factor;
-        }
-        Points(BEYOND)
-    }
-}
-
-// A posting that is answered "done", and the book after it.
-pub fn done<B: Copy>(book: B) -> Posted<B>
-    ensures { result ≡ posted Done book }
-{
-    Posted {
-        answer: Answer::Done,
-        book,
     }
 }

@@ -1,5 +1,3 @@
 -- Laws over plain values that the functions' proofs cite.
 pub mod BillLines
 pub mod MonthEnds
-pub mod Parts
-pub mod Settling

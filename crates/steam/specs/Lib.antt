@@ -1,3 +1,3 @@
 -- What the code's steps pass on; what they mean is said in the rules.
 pub mod Lines
-pub mod Stored
+pub mod Taken

@@ -1,28 +1,24 @@
-// What a posting does that no row has refused so far, one call a kind: the answer and the next book, whose limits are still to be tested.
-#![tactic(auto, unfolding(steam_rules::specs::Next::next_at, steam_rules::specs::Next::answer_at, steam_rules::specs::Next::cost_posted, steam_rules::specs::Next::sales_posted, steam_rules::specs::Next::bill_posted, steam_rules::specs::Next::bill_line, steam_rules::specs::Next::month_ended, steam_rules::specs::Next::adjust_posted))]
-
-ghost use Rattle.std.specs.Prelude.{◌≡◌};
+// What a posting does that no row before 12 refuses, a call a kind. Each tests the limits of what it changes, stores that in the lent book and
+// answers; or it gives refusal 12, with the book as it was. What it leaves lay within its limits before.
+ghost use Rattle.std.specs.Prelude.{◌≡◌, true, false};
 ghost use Rattle.postings.specs.Ranged.{Ranged};
-ghost use Rattle.riders.specs.Posts.{StoredAs};
+ghost use Rattle.postings.specs.declared.Answer.TheVariants.{Done};
+ghost use Rattle.riders.specs.Months.{forbidden};
+ghost use Rattle.riders.specs.Posts.{TakenWithin};
+ghost use Rattle.steam_rules.specs.Calendar.{settles};
 ghost use Rattle.steam_rules.specs.Settlement.{shifted};
-ghost use Rattle.steam_rules.specs.Ranges.{BookWithin, book_within_prop};
-ghost use Rattle.steam.specs.Stored.{effect_at, fits};
+ghost use Rattle.steam_rules.specs.Next.{month_ended};
+ghost use Rattle.steam_rules.specs.Limits.{in_limits};
+ghost use Rattle.steam.specs.Taken.{TakenAt};
 
 use crate::bills::{Bill, Billed};
-use amounts::Cents;
+use crate::month_ends;
+use amounts::{Cents, Stored};
 use postings::kinds::Kind;
-use postings::{Answer, Book, Posted, Posting};
+use postings::{Answer, Book, Posting};
+use refusals::Refusal;
 use riders::Run;
-use steam_rules::{Mmbtu, Period, Reconciliation, SteamBook};
-
-// A posting with the book that it is posted to, which is within its limits. What a kind asks of the posting is no field: each method would have
-// to ask for its kind instead. The electric book has the like, of its own limits.
-#[derive(Clone, Copy)]
-pub(crate) struct Accepted {
-    pub(crate) book: SteamBook,
-    pub(crate) posting: Posting,
-    ghost book_within: { BookWithin book } by { book_within_prop book },
-}
+use steam_rules::{Mmbtu, Reconciliation, SteamBook, four_stored};
 
 // The oldest quarter leaves, the newest enters.
 #[tactic(auto, using(steam_rules::specs::Quarters::shifted_four))]
@@ -32,128 +28,109 @@ fn shifted(quarters: [Mmbtu; 4], newest: Mmbtu) -> [Mmbtu; 4]
     [quarters[1], quarters[2], quarters[3], newest]
 }
 
-impl Accepted {
-    fn cost(self) -> Posted<SteamBook>
-        requires { Ranged Book.Steam Kind.Cost self.posting }
-        ensures { result ≡ effect_at Kind.Cost self.book self.posting }
-    {
-        let Accepted { book, posting, .. } = self;
-        let period = Period {
-            cost: Cents(book.period.cost.0 + posting.first),
-            ..book.period
-        };
-        riders::done(SteamBook { period, ..book })
-    }
+fn cost(book: &mut SteamBook, posting: Posting) -> Result<Answer, Refusal>
+    requires { (in_limits book.old ≡ true) × Ranged Book.Steam Kind.Cost posting }
+    ensures { TakenAt Kind.Cost book.old posting result book.new }
+{
+    let cost = Cents(book.period.cost.0 + posting.first);
+    book.period.cost = cost.stored()?;
+    Ok(Answer::Done)
+}
 
-    fn sales(self) -> Posted<SteamBook>
-        requires { Ranged Book.Steam Kind.Sales self.posting }
-        ensures { result ≡ effect_at Kind.Sales self.book self.posting }
-    {
-        let Accepted { book, posting, .. } = self;
-        let period = Period {
-            sales: Mmbtu(book.period.sales.0 + posting.first),
-            ..book.period
-        };
-        riders::done(SteamBook { period, ..book })
-    }
+fn sales(book: &mut SteamBook, posting: Posting) -> Result<Answer, Refusal>
+    requires { (in_limits book.old ≡ true) × Ranged Book.Steam Kind.Sales posting }
+    ensures { TakenAt Kind.Sales book.old posting result book.new }
+{
+    let sales = Mmbtu(book.period.sales.0 + posting.first);
+    book.period.sales = sales.stored()?;
+    Ok(Answer::Done)
+}
 
-    fn bill(self) -> Posted<SteamBook>
-        requires { Ranged Book.Steam Kind.Bill self.posting }
-        ensures { result ≡ effect_at Kind.Bill self.book self.posting }
-    {
-        let Accepted { book, posting, .. } = self;
-        let bill = Bill { book, posting };
-        let lines = bill.lines();
-        let billed = Billed { bill, lines };
-        Posted {
-            answer: Answer::Line(lines.all),
-            book: SteamBook {
-                dues: billed.dues(),
-                reconciliation: billed.reconciliation(),
-                ..book
-            },
-        }
-    }
+fn bill(book: &mut SteamBook, posting: Posting) -> Result<Answer, Refusal>
+    requires { (in_limits book.old ≡ true) × Ranged Book.Steam Kind.Bill posting }
+    ensures { TakenAt Kind.Bill book.old posting result book.new }
+{
+    let bill = Bill {
+        book: *book,
+        posting,
+    };
+    let lines = bill.lines();
+    let billed = Billed { bill, lines };
+    let dues = billed.dues();
+    let reconciliation = billed.reconciliation();
+    four_stored(dues)?;
+    reconciliation.stored()?;
+    book.dues = dues;
+    book.reconciliation = reconciliation;
+    Ok(Answer::Line(lines.all))
+}
 
-    // A run that no book stores is filed for one out of limits, so the book is stored or refused as the rules' own would be.
-    fn settlement(self) -> Posted<SteamBook>
-        requires { Ranged Book.Steam Kind.Settle self.posting }
-        ensures { StoredAs fits result (effect_at Kind.Settle self.book self.posting) }
-    {
-        let Accepted { book, posting, .. } = self;
-        let shared = steam_settlement::shared_of(book.period);
-        let determinants = steam_settlement::determinants::determinants_of(
-            book.period.sales,
-            book.quarters,
-            Mmbtu(posting.first),
-        );
-        let filed = Run::filed(shared.share, determinants.0);
-        Posted {
-            answer: Answer::Filed(filed.factor),
-            book: SteamBook {
-                settled: true,
-                period: shared.period,
-                quarters: shifted(book.quarters, book.period.sales),
-                pending: filed,
-                ..book
-            },
-        }
-    }
+fn settle(book: &mut SteamBook, posting: Posting) -> Result<Answer, Refusal>
+    requires { (in_limits book.old ≡ true) × Ranged Book.Steam Kind.Settle posting × (settles book.old.month ≡ true) }
+    ensures { TakenAt Kind.Settle book.old posting result book.new }
+{
+    let shared = steam_settlement::shared_of(book.period);
+    let determinants = steam_settlement::determinants::determinants_of(
+        book.period.sales,
+        book.quarters,
+        Mmbtu(posting.first),
+    );
+    let filed = Run::filed(shared.share, determinants.0)?;
+    book.settled = true;
+    book.quarters = shifted(book.quarters, book.period.sales);
+    book.period = shared.period;
+    book.pending = filed;
+    Ok(Answer::Filed(filed.factor))
+}
 
-    fn month_end(self) -> Posted<SteamBook>
-        ensures { result ≡ effect_at Kind.MonthEnd self.book self.posting }
-    {
-        let run = steam_refusals::calendar::entering(self.book.month);
-        let entered = self.entered(run);
-        riders::done(SteamBook {
-            month: riders::months::month_after(self.book.month),
-            settled: false,
-            ..crate::month_ends::reconciled(entered)
-        })
-    }
+// A month's end moves runs that lay within their limits: only what is carried can leave them.
+fn month_end(book: &mut SteamBook) -> Result<Answer, Refusal>
+    requires { in_limits book.old ≡ true }
+    ensures { TakenWithin (in_limits (month_ended book.old)) Done (month_ended book.old) book.old result book.new }
+{
+    let next = month_ends::ended(*book);
+    next.carried.stored()?;
+    *book = next;
+    Ok(Answer::Done)
+}
 
-    fn adjustment(self) -> Posted<SteamBook>
-        requires { Ranged Book.Steam Kind.Adjust self.posting }
-        ensures { result ≡ effect_at Kind.Adjust self.book self.posting }
-    {
-        let Accepted { book, posting, .. } = self;
-        riders::done(SteamBook {
-            carried: Cents(book.carried.0 + posting.first),
-            ..book
-        })
-    }
+fn adjust(book: &mut SteamBook, posting: Posting) -> Result<Answer, Refusal>
+    requires { (in_limits book.old ≡ true) × Ranged Book.Steam Kind.Adjust posting }
+    ensures { TakenAt Kind.Adjust book.old posting result book.new }
+{
+    let carried = Cents(book.carried.0 + posting.first);
+    book.carried = carried.stored()?;
+    Ok(Answer::Done)
+}
 
-    // What is carried is filed as a settlement's share is.
-    fn reconciliation(self) -> Posted<SteamBook>
-        requires { Ranged Book.Steam Kind.Reconcile self.posting }
-        ensures { StoredAs fits result (effect_at Kind.Reconcile self.book self.posting) }
-    {
-        let Accepted { book, posting, .. } = self;
-        riders::done(SteamBook {
-            carried: Cents(0),
-            reconciliation: Reconciliation {
-                run: Run::filed(book.carried, posting.second),
-                // 12 or 24, which a byte holds.
-                months: posting.first as u8,
-            },
-            ..book
-        })
-    }
+fn reconcile(book: &mut SteamBook, posting: Posting) -> Result<Answer, Refusal>
+    requires { (in_limits book.old ≡ true) × Ranged Book.Steam Kind.Reconcile posting }
+    ensures { TakenAt Kind.Reconcile book.old posting result book.new }
+{
+    let run = Run::filed(book.carried, posting.second)?;
+    book.carried = Cents(0);
+    book.reconciliation = Reconciliation {
+        run,
+        // 12 or 24, which a byte holds.
+        months: posting.first as u8,
+    };
+    Ok(Answer::Done)
+}
 
-    // The effect of the posting, by its kind; that of a kind which no book has is none.
-    pub(crate) fn effect(self, kind: Kind) -> Posted<SteamBook>
-        requires { Ranged Book.Steam kind self.posting }
-        ensures { StoredAs fits result (effect_at kind self.book self.posting) }
-    {
-        match kind {
-            Kind::Cost => self.cost(),
-            Kind::Sales => self.sales(),
-            Kind::Bill => self.bill(),
-            Kind::Settle => self.settlement(),
-            Kind::MonthEnd => self.month_end(),
-            Kind::Adjust => self.adjustment(),
-            Kind::Reconcile => self.reconciliation(),
-            Kind::Unknown => riders::done(self.book),
-        }
+// By the kind of the posting; one of a kind that no book has does nothing.
+#[tactic(auto, unfolding(steam_rules::specs::Next::next_at, steam_rules::specs::Next::answer_at))]
+pub(crate) fn effect(book: &mut SteamBook, kind: Kind, posting: Posting) -> Result<Answer, Refusal>
+    requires { (in_limits book.old ≡ true) × Ranged Book.Steam kind posting × (forbidden kind (settles book.old.month) book.old.settled ≡ false) }
+    ensures { TakenAt kind book.old posting result book.new }
+{
+    match kind {
+        Kind::Cost => cost(book, posting),
+        Kind::Sales => sales(book, posting),
+        Kind::Bill => bill(book, posting),
+        Kind::Settle => settle(book, posting),
+        Kind::MonthEnd => month_end(book),
+        Kind::Adjust => adjust(book, posting),
+        Kind::Reconcile => reconcile(book, posting),
+        Kind::Unknown => Ok(Answer::Done),
     }
 }

@@ -6,7 +6,6 @@ ghost use Rattle.std.specs.Prelude.{◌≡◌};
 ghost use Rattle.riders.specs.Rules.{answered_by, left_by};
 ghost use Rattle.steam_rules.specs.Refusals.{rules};
 
-use effects::Accepted;
 use postings::{Answer, Posting};
 use refusals::Refusal;
 use steam_rules::SteamBook;
@@ -17,19 +16,10 @@ mod month_ends;
 
 // Takes a posting: its answer, with the next book in the place of this one; or its refusal, with the book as it was. In place, since
 // each move of a book that a call hands back is a copy.
-// The electric book has the same four steps: a trait for both would ask for three members, each with a contract.
+// The electric book has the same two steps: a trait for both would ask for two members, each with a contract.
 pub fn take(book: &mut SteamBook, posting: Posting) -> Result<Answer, Refusal>
     ensures { (result ≡ answered_by rules book.old posting) × (book.new ≡ left_by rules book.old posting) }
 {
     let kind = steam_refusals::accepted(*book, posting)?;
-    let posted = Accepted {
-        book: *book,
-        posting,
-    }
-    .effect(kind);
-    if !steam_refusals::limits::in_limits(posted.book) {
-        return Err(Refusal::NextOutOfLimits);
-    }
-    *book = posted.book;
-    Ok(posted.answer)
+    effects::effect(book, kind, posting)
 }

@@ -1,39 +1,36 @@
-// What a month's end makes of the runs.
-#![tactic(auto, unfolding(steam_rules::specs::Next::entered, steam_rules::specs::Next::reconciled))]
+// What a month's end makes of the book.
+#![tactic(auto, unfolding(steam_rules::specs::Next::entered, steam_rules::specs::Next::reconciled, steam_rules::specs::Next::month_ended))]
 
-ghost use Rattle.std.specs.Prelude.{◌≡◌, ◌<◌, IfSome};
+ghost use Rattle.std.specs.Prelude.{◌≡◌, ◌<◌, IfSome, true};
 ghost use Rattle.ints.specs.Range.{Within};
 ghost use Rattle.riders.specs.Runs.{RunWithin};
-ghost use Rattle.steam_rules.specs.Next.{entered, reconciled};
+ghost use Rattle.steam_rules.specs.Next.{entered, reconciled, month_ended};
+ghost use Rattle.steam_rules.specs.Ranges.{BookWithin};
 
-use crate::effects::Accepted;
 use amounts::Cents;
 use riders::Run;
 use steam_rules::{Reconciliation, SteamBook};
 
-impl Accepted {
-    // The run that enters, by its place, adds its due cents to the carried ones and becomes the pending run.
-    pub(crate) fn entered(self, run: Option<usize>) -> SteamBook
-        requires { IfSome run (λ place. place < 4) }
-        ensures { result ≡ entered run self.book }
-    {
-        let book = self.book;
-        let Some(place) = run else {
-            return book;
-        };
-        let mut next = SteamBook {
-            carried: Cents(book.carried.0 + book.dues[place].0),
-            pending: Run::none(),
-            ..book
-        };
-        next.factors[place] = book.pending.factor;
-        next.dues[place] = book.pending.due;
-        next
-    }
+// The run that enters, by its place, adds its due cents to the carried ones and becomes the pending run.
+fn entered(book: SteamBook, run: Option<usize>) -> SteamBook
+    requires { BookWithin book × IfSome run (λ place. place < 4) }
+    ensures { result ≡ entered run book }
+{
+    let Some(place) = run else {
+        return book;
+    };
+    let mut next = SteamBook {
+        carried: Cents(book.carried.0 + book.dues[place].0),
+        pending: Run::none(),
+        ..book
+    };
+    next.factors[place] = book.pending.factor;
+    next.dues[place] = book.pending.due;
+    next
 }
 
 // The reconciliation loses a month; at none left its due cents join the carried ones.
-pub(crate) fn reconciled(book: SteamBook) -> SteamBook
+fn reconciled(book: SteamBook) -> SteamBook
     requires { Within 2000000000000 book.carried.0 × RunWithin book.reconciliation.run }
     ensures { result ≡ reconciled book }
 {
@@ -51,5 +48,19 @@ pub(crate) fn reconciled(book: SteamBook) -> SteamBook
             },
             ..book
         },
+    }
+}
+
+// The run that enters, then the reconciliation's month, then the month moves on.
+pub(crate) fn ended(book: SteamBook) -> SteamBook
+    requires { BookWithin book }
+    ensures { result ≡ month_ended book }
+{
+    let run = steam_refusals::calendar::entering(book.month);
+    let entered = entered(book, run);
+    SteamBook {
+        month: riders::months::month_after(book.month),
+        settled: false,
+        ..reconciled(entered)
     }
 }

@@ -11,23 +11,18 @@ use Rattle.ints.specs.Machine.{eq_z, eq_z_true}
 use Rattle.postings.specs.declared.kinds.Kind.TheVariants.{Reconcile}
 use Rattle.riders.specs.Months.{month_in_limits}
 use Rattle.riders.specs.Runs.{run_in_limits}
-use Rattle.amounts.specs.Amounts.{cents_in_limits}
 use Rattle.steam_rules.specs.declared.SteamBook.{SteamBook}
 use Rattle.steam_rules.specs.Calendar.{settles}
-use Rattle.steam_rules.specs.Limits.{period_in_limits, quarters_in_limits, factors_in_limits, dues_in_limits, reconciliation_in_limits, runs_in_limits, in_limits}
-use Rattle.steam_rules.specs.Ranges.{BookWithin, book_within}
+use Rattle.steam_rules.specs.Limits.{reconciliation_in_limits, in_limits}
+use Rattle.steam_rules.specs.Ranges.{Others, tested, BookWithin, book_within}
 use Rattle.steam_rules.specs.Refusals.{still_runs}
 
 module _ (b : SteamBook) (limits : not (in_limits b) ≡ false) where
-  pub dates : month_in_limits b.month (settles b.month) b.settled ≡ true
-  unfolding in_limits
-  dates = (both _ (period_in_limits b.period && (quarters_in_limits b.quarters && (cents_in_limits b.carried && runs_in_limits b))) (not-false _ limits)).0
+  others : Others b
+  others = (tested b (not-false _ limits)).0
 
-  runs : runs_in_limits b ≡ true
-  unfolding in_limits
-  runs =
-      (both (cents_in_limits b.carried) _ (both (quarters_in_limits b.quarters) _ (both (period_in_limits b.period) _
-      (both (month_in_limits b.month (settles b.month) b.settled) _ (not-false _ limits)).1).1).1).1
+  pub dates : month_in_limits b.month (settles b.month) b.settled ≡ true
+  dates = others.month
 
   found : BookWithin b
   found = book_within b (not-false _ limits)
@@ -38,16 +33,12 @@ module _ (b : SteamBook) (limits : not (in_limits b) ≡ false) where
   pub four_dues : length b.dues ≡ 4
   four_dues = found.runs.dues.count
 
-  reconciliation : reconciliation_in_limits b.reconciliation ≡ true
-  unfolding runs_in_limits
-  reconciliation = (both (dues_in_limits b.dues) _ (both (factors_in_limits b.factors) _ (both (run_in_limits b.pending) _ runs).1).1).1
-
   -- where none runs, a reconciliation may begin
   pub none_due : still_runs Reconcile b ≡ false → b.reconciliation.run.due.0 ≡ pos 0
   unfolding reconciliation_in_limits
   none_due free =
       let r = b.reconciliation in
       let none : eqb r.months 0 ≡ true = not-false _ free in
-      let rest = (both (run_in_limits r.run) _ (both (leb r.months 24) _ reconciliation).1).1 in
+      let rest = (both (run_in_limits r.run) _ (both (leb r.months 24) _ others.reconciliation).1).1 in
       let nothing = ap (λ (none : Bool). not none || (eq_z r.run.factor.0 (pos 0) && eq_z r.run.due.0 (pos 0))) (sym none) ∙ rest in
       eq_z_true r.run.due.0 (pos 0) (both (eq_z r.run.factor.0 (pos 0)) _ nothing).1

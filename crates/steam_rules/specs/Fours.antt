@@ -1,14 +1,12 @@
--- Arrays of four: a test of each element, and what it tells of each. Assumes nothing.
-use Rattle.std.specs.Prelude.{◌≡◌, refl, Bool, true, false, ◌&&◌, List, [], ◌∷◌, ℕ, zero, suc, ◌<◌, eqb, length, get_or}
+-- Arrays of four: a test of each element, what it tells of each, and an element stored. Assumes nothing.
+use Rattle.std.specs.Prelude.{◌≡◌, refl, Bool, true, ◌&&◌, List, [], ◌∷◌, ℕ, zero, suc, ◌<◌, eqb, length, get_or}
 use Rattle.std.proofs.Common.{sym, ap, ◌∙◌, subst, arith, eqb-true}
 use Rattle.std.specs.List.{list_all}
+use Rattle.std.proofs.Math.Bool.{and-true}
+use Rattle.std.proofs.Math.ListN.{set, length-set}
 use Rattle.std.proofs.Props.{props}
 use Rattle.ints.specs.Flags.{both}
 use Rattle.steam_rules.specs.Limits.{all_four}
-
-and_true : (t : Bool) → t ≡ t && true
-and_true true = refl
-and_true false = refl
 
 module _ {A : Type 0} where
   -- the elements of an array of four
@@ -24,7 +22,7 @@ module _ {A : Type 0} where
       (test : A → Bool) (d : A) (xs : List A) → length xs ≡ 4 →
       test (get_or xs 0 d) && (test (get_or xs 1 d) && (test (get_or xs 2 d) && test (get_or xs 3 d))) ≡ all_four test xs
   tested_four test d xs e =
-      ap (λ (t : Bool). test (get_or xs 0 d) && (test (get_or xs 1 d) && (test (get_or xs 2 d) && t))) (and_true (test (get_or xs 3 d)))
+      ap (λ (t : Bool). test (get_or xs 0 d) && (test (get_or xs 1 d) && (test (get_or xs 2 d) && t))) (sym (and-true (test (get_or xs 3 d))))
       ∙ ap (all_four test) (sym (as_four d xs e))
 
   -- what is so of each element
@@ -81,3 +79,17 @@ module _ {A : Type 0} where
 
   pub four_yes : (test : A → Bool) (P : A → Type 0) → ((x : A) → P x → test x ≡ true) → (xs : List A) → Four P xs → all_four test xs ≡ true
   four_yes test P tests xs fs = simp (fs.count, each_yes test P tests xs fs.each)
+
+-- what is stored passes the test, so the array does
+module _ {A : Type 0} (test : A → Bool) where
+  set_all : (xs : List A) (i : ℕ) (x : A) → list_all test xs ≡ true → test x ≡ true → list_all test (set xs i x) ≡ true
+  set_all [] i x e h = refl
+  set_all (y ∷ ys) zero x e h = simp (h, (both (test y) (list_all test ys) e).1)
+  set_all (y ∷ ys) (suc i) x e h =
+      let p = both (test y) (list_all test ys) e in
+      simp (p.0, set_all ys i x p.1 h)
+
+  pub set_four : (xs : List A) (i : ℕ) (x : A) → all_four test xs ≡ true → test x ≡ true → all_four test (set xs i x) ≡ true
+  set_four xs i x e h =
+      let p = both (eqb (length xs) 4) (list_all test xs) e in
+      simp (length-set xs i x, p.0, set_all xs i x p.1 h)

@@ -1,4 +1,5 @@
--- What the limits tell of a book: a range for every amount that it stores, in records nested like the book. Assumes nothing.
+-- What the limits tell of a book: each of their tests, and a range for every amount that it stores, in records nested like the book. Assumes
+-- nothing.
 use Rattle.std.specs.Prelude.{◌≡◌, true, List, leb, pos, neg_ℤ}
 use Rattle.std.proofs.Props.{props}
 use Rattle.ints.specs.Flags.{both}
@@ -16,6 +17,31 @@ use Rattle.steam_rules.specs.declared.SteamBook.{SteamBook}
 use Rattle.steam_rules.specs.Calendar.{settles}
 use Rattle.steam_rules.specs.Limits.{mmbtu_in_limits, remainder_in_limits, period_in_limits, quarters_in_limits, factors_in_limits, dues_in_limits, reconciliation_in_limits, runs_in_limits, in_limits}
 use Rattle.steam_rules.specs.Fours.{Four, four_prop, four_tested, four_yes}
+
+-- ---- each test of the limits, the account's apart
+
+pub record Others (b : SteamBook) : Type 0 where
+  pub month : month_in_limits b.month (settles b.month) b.settled ≡ true
+  pub period : period_in_limits b.period ≡ true
+  pub quarters : quarters_in_limits b.quarters ≡ true
+  pub pending : run_in_limits b.pending ≡ true
+  pub factors : factors_in_limits b.factors ≡ true
+  pub dues : dues_in_limits b.dues ≡ true
+  pub reconciliation : reconciliation_in_limits b.reconciliation ≡ true
+
+pub tested : (b : SteamBook) → in_limits b ≡ true → Others b × (cents_in_limits b.carried ≡ true)
+unfolding in_limits runs_in_limits
+tested b e =
+    let m = both (month_in_limits b.month (settles b.month) b.settled) _ e in
+    let p = both (period_in_limits b.period) _ m.1 in
+    let q = both (quarters_in_limits b.quarters) _ p.1 in
+    let c = both (cents_in_limits b.carried) _ q.1 in
+    let r = both (run_in_limits b.pending) _ c.1 in
+    let f = both (factors_in_limits b.factors) _ r.1 in
+    let d = both (dues_in_limits b.dues) _ f.1 in
+    (record { month = m.0; period = p.0; quarters = q.0; pending = r.0; factors = f.0; dues = d.0; reconciliation = d.1 }, c.0)
+
+-- ---- the ranges
 
 abbrev pub MmbtuWithin : Mmbtu → Type 0
 MmbtuWithin sales = Between (pos 0) (pos 100000000) sales.0
@@ -81,31 +107,21 @@ reconciliation_within : (r : Reconciliation) → reconciliation_in_limits r ≡ 
 unfolding reconciliation_in_limits
 reconciliation_within r e = run_within r.run (both (run_in_limits r.run) _ (both (leb r.months 24) _ e).1).0
 
-runs_within : (b : SteamBook) → runs_in_limits b ≡ true → RunsWithin b
-unfolding runs_in_limits factors_in_limits dues_in_limits
-runs_within b e =
-    let p = both (run_in_limits b.pending) _ e in
-    let f = both (factors_in_limits b.factors) _ p.1 in
-    let d = both (dues_in_limits b.dues) _ f.1 in
-    record {
-      pending = run_within b.pending p.0;
-      factors = four_tested points_in_limits PointsWithin points_within b.factors f.0;
-      dues = four_tested cents_in_limits CentsWithin cents_within b.dues d.0;
-      reconciliation = reconciliation_within b.reconciliation d.1;
-    }
-
 pub book_within : (b : SteamBook) → in_limits b ≡ true → BookWithin b
-unfolding in_limits
+unfolding factors_in_limits dues_in_limits
 book_within b e =
-    let m = both (month_in_limits b.month (settles b.month) b.settled) _ e in
-    let p = both (period_in_limits b.period) _ m.1 in
-    let q = both (quarters_in_limits b.quarters) _ p.1 in
-    let c = both (cents_in_limits b.carried) _ q.1 in
+    let t = tested b e in
+    let o = t.0 in
     record {
-      period = period_within b.period p.0;
-      quarters = quarters_within b.quarters q.0;
-      carried = cents_within b.carried c.0;
-      runs = runs_within b c.1;
+      period = period_within b.period o.period;
+      quarters = quarters_within b.quarters o.quarters;
+      carried = cents_within b.carried t.1;
+      runs = record {
+        pending = run_within b.pending o.pending;
+        factors = four_tested points_in_limits PointsWithin points_within b.factors o.factors;
+        dues = four_tested cents_in_limits CentsWithin cents_within b.dues o.dues;
+        reconciliation = reconciliation_within b.reconciliation o.reconciliation;
+      };
     }
 
 -- a book is within its limits in one way alone

@@ -3,6 +3,7 @@
 #![tactic(auto)]
 
 ghost use Rattle.std.specs.Prelude.{◌≡◌};
+ghost use Rattle.refusals.specs.Rows.{stored_or_12};
 ghost use Rattle.steam_rules.specs.Book.{no_period, no_reconciliation, fresh_of};
 ghost use Rattle.steam_rules.specs.Limits.{mmbtu_in_limits, remainder_in_limits, period_in_limits, reconciliation_in_limits, all_four};
 ghost use Rattle.steam_rules.specs.Opening.{opened_of, handed_back};
@@ -178,4 +179,14 @@ pub fn four_in_limits<T: Stored>(values: [T; 4]) -> bool
 {
     values[0].in_limits()
         & (values[1].in_limits() & (values[2].in_limits() & values[3].in_limits()))
+}
+
+// Row 12 of four: they, where a book may store each.
+pub fn four_stored<T: Stored>(values: [T; 4]) -> Result<[T; 4], Refusal>
+    ensures { result ≡ stored_or_12 (all_four T.within values) values }
+{
+    if !four_in_limits(values) {
+        return Err(Refusal::NextOutOfLimits);
+    }
+    Ok(values)
 }

@@ -1,9 +1,11 @@
 //! Compiles a program of the folder `host` against the static library, and runs it.
 
+use crate::commands::printed;
 use crate::files::repository_top;
+use crate::library::ARCHIVE;
 use std::env;
 use std::path::{Path, PathBuf};
-use std::process::{Command, Output};
+use std::process::Command;
 
 /// How a language is compiled.
 pub struct Language {
@@ -32,16 +34,12 @@ pub const CPP: Language = Language {
     standard: "-std=c++11",
 };
 
-/// The archive, which the twin's build makes.
-const LIBRARY: &str = env!("PROVED_LIBRARY");
-
 const WARNINGS: [&str; 4] = ["-Wall", "-Wextra", "-pedantic", "-Werror"];
 
 /// What the program prints, compiled without a warning as a program of the language.
 pub fn output_of(language: &Language, source: &str) -> String {
     let program = compiled(language, source);
-    let output = run(Command::new(&program), &program.display().to_string());
-    String::from_utf8(output.stdout).expect("the program prints text")
+    printed(Command::new(&program), &program.display().to_string())
 }
 
 fn compiled(language: &Language, source: &str) -> PathBuf {
@@ -54,29 +52,12 @@ fn compiled(language: &Language, source: &str) -> PathBuf {
     command
         .args(["-x", language.sources])
         .arg(host.join(source));
-    command.args(["-x", "none"]).arg(LIBRARY);
+    command.args(["-x", "none"]).arg(ARCHIVE);
     command.arg("-o").arg(&program);
-    run(command, &format!("the {} compiler", language.name));
+    printed(command, &format!("the {} compiler", language.name));
     program
 }
 
 fn compiler(language: &Language) -> String {
     env::var(language.variable).unwrap_or_else(|_| language.compiler.to_owned())
-}
-
-/// What the command wrote, which must end well: without a compiler nothing is shown, so that is a failure too.
-fn run(mut command: Command, what: &str) -> Output {
-    let output = match command.output() {
-        Ok(output) => output,
-        Err(error) => {
-            panic!("{what} could not be started, so nothing is tested: {error} ({command:?})")
-        }
-    };
-    assert!(
-        output.status.success(),
-        "{what} ended with {}\n{command:?}\n{}",
-        output.status,
-        String::from_utf8_lossy(&output.stderr)
-    );
-    output
 }

@@ -3,12 +3,15 @@
 #![forbid(unsafe_code)]
 
 mod c_types;
+mod commands;
 mod compilers;
 mod declarations;
 mod excerpts;
 mod files;
 mod layouts;
+mod library;
 mod structs;
+mod symbols;
 mod text;
 mod transcript;
 

@@ -4,10 +4,11 @@ use crate::c_types::c_type;
 use crate::files::{file, HEADER};
 
 /// The files that declare what a host is handed, each with those structs.
-const SOURCES: [(&str, &[&str]); 8] = [
+const SOURCES: [(&str, &[&str]); 9] = [
     ("crates/amounts/src/lib.rt", &["Cents", "Points"]),
     ("crates/postings/src/lib.rt", &["Posting"]),
-    ("crates/host/src/results.rt", &["Written", "Read"]),
+    ("crates/replies/src/lib.rt", &["Written"]),
+    ("crates/host/src/results.rt", &["Read"]),
     ("crates/riders/src/lib.rt", &["Run"]),
     (
         "crates/electric_rules/src/lib.rt",

@@ -1,16 +1,18 @@
 -- `electric::take` answers and leaves what the rules say: a row before the next book refuses, or the limits of the next book decide. Assumes
 -- nothing.
-use Rattle.std.specs.Prelude.{◌≡◌, refl, Err}
-use Rattle.std.proofs.Common.{rules as common, sym, ◌∙◌}
+use Rattle.std.specs.Prelude.{◌≡◌, refl, Err, true, false}
+use Rattle.std.proofs.Common.{rules as common, ◌∙◌}
 use Rattle.refusals.specs.Rows.{before, number_of}
+use Rattle.postings.specs.Ranged.{Ranged}
 use Rattle.postings.specs.declared.kinds.Kind.{Kind}
 use Rattle.postings.specs.declared.Book.TheVariants.{Electric}
+use Rattle.riders.specs.Months.{forbidden}
 use Rattle.riders.specs.Posts.{shown}
 use Rattle.riders.proofs.PostLaws as posts
+use Rattle.electric_rules.specs.Calendar.{settles}
 use Rattle.electric_rules.specs.Limits.{in_limits}
-use Rattle.electric_rules.specs.Ranges.{book_within}
+use Rattle.electric_rules.specs.Next.{next_at, answer_at}
 use Rattle.electric_rules.specs.Refusals.{rules}
-use Rattle.electric.specs.Stored.{effect_at}
 use Rattle.electric.proofs.take.Goals as goal
 
 pub returns-in_err-kind : goal.returns-in_err-kind
@@ -20,30 +22,16 @@ returns-in_err-kind c =
     let early = posts.refused_early rules c.args.book.now c.args.posting in_limits refl c.in_err-kind.ensures in
     (refused ∙ early.0, early.1)
 
-pub invariant_of-effect : goal.invariant_of-effect
+pub effect-requires : goal.effect-requires
 unfolding before number_of
-invariant_of-effect c =
+effect-requires c =
     let b = c.args.book.now in
     let p = c.args.posting in
-    record { book_within = book_within b (posts.found_within rules b p in_limits refl Electric (shown Electric in_limits b p _) c.in_ok-kind.ensures) }
-
-pub effect-posted-requires : goal.effect-posted-requires
-unfolding before number_of
-effect-posted-requires c =
-    let b = c.args.book.now in
-    let p = c.args.posting in
-    posts.ranged rules b p in_limits refl Electric (shown Electric in_limits b p _) c.in_ok-kind.ensures
-
-pub returns-then-not-in_limits : goal.returns-then-not-in_limits
-unfolding before number_of
-returns-then-not-in_limits c =
-    let b = c.args.book.now in
-    let p = c.args.posting in
-    posts.refused_late rules b p in_limits refl Electric (shown Electric in_limits b p _) c.in_ok-kind.ensures (λ (kind : Kind). effect_at kind b p) refl c.effect-posted.ensures (sym c.in_limits.ensures ∙ c.if-not-in_limits.true)
+    posts.known rules b p in_limits refl c.in_ok-kind.ensures (λ (kind : Kind). (in_limits b ≡ true) × Ranged Electric kind p × (forbidden kind (settles b.month) b.settled ≡ false)) (shown Electric in_limits (settles b.month) b.settled b p _)
 
 pub returns : goal.returns
 unfolding before number_of
 returns c =
     let b = c.args.book.now in
     let p = c.args.posting in
-    posts.stored_in_limits rules b p in_limits refl Electric (shown Electric in_limits b p _) c.in_ok-kind.ensures (λ (kind : Kind). effect_at kind b p) refl c.effect-posted.ensures (sym c.in_limits.ensures ∙ c.if-not-in_limits.false)
+    posts.decided rules b p in_limits refl c.in_ok-kind.ensures (λ (kind : Kind). answer_at kind b p) (λ (kind : Kind). next_at kind b p) (refl, refl) c.effect.ensures

@@ -1,15 +1,14 @@
 -- `Amount::put` stores the text: its parts, stored one behind the other, are it. Assumes nothing.
 use Rattle.std.proofs.Common.{◌≡◌, ◌∙◌, sym, ap, ℕ, ◌+◌, ◌/◌, ◌^◌, ◌≤◌, ℤ, pos, nat_abs, length, to_z, of_z, w64, arith, List}
 use Rattle.std.proofs.Math.Nat.{one-le-pow}
-use Rattle.std.proofs.lemmas.List.Edits.{sets}
 use mir.Val.{bool_byte}
 use lib.Signed.{lt_z}
 use Rattle.ints.specs.Machine.{reads}
-use Rattle.amounts.specs.Text.{sign_of, text_of, text_left}
-use Rattle.amounts.proofs.Texts.{Measured, length_sign, length_is, length_most, sign_stored, no_sign_stored, text_stored, kept, stored}
+use Rattle.amounts.specs.Text.{text_of, text_left}
+use Rattle.amounts.proofs.Texts.{Measured, length_sign, length_is, length_most, text_stored, kept, stored}
 use Rattle.amounts.proofs.Amount.put.Given.{Over}
 use Rattle.amounts.proofs.Amount.put.Goals as goal
-use Rattle.amounts.proofs.Amount.put.Goals.{After-PLACES-2, then-negative, else-negative}
+use Rattle.amounts.proofs.Amount.put.Goals.{After-PLACES-2}
 
 pub nonzero_div-whole : goal.nonzero_div-whole
 nonzero_div-whole g c = omega (arith, c.pow.ensures, one-le-pow c.PLACES.result 10 (omega arith))
@@ -49,15 +48,9 @@ returns-then-buffer-length g c =
 pub returns : goal.returns
 returns g c =
     let d = (goal.at.returns g c).After-PLACES-2 in
-    let l = long g d in
-    let number = g.Self.Amount.number c.args.self in
-    let tested = ap (λ (z : ℤ). lt_z z (pos 0)) (sym (read g d)) in
-    let signed : c.if-negative.buffer ≡ sets c.args.buffer.now 0 (sign_of number) = elim c.if-negative.branch [
-      | then-negative w ↦ w.buffer-is ∙ sign_stored number c.args.buffer.now (tested ∙ w.if-negative.true)
-      | else-negative w ↦ w.buffer-is ∙ no_sign_stored number c.args.buffer.now (tested ∙ w.if-negative.false)
-    ] in (
+    let l = long g d in (
       l ∙ ap length (text_is g d),
       most g d,
-      stored _ _ _ (omega (arith, l)) (text_stored _ _ _ _ _ _ (measured g d) _ _ _ _ c.if-buffer-length.false signed c.put_digits.ensures c.put_digits-2.ensures)
+      stored _ _ _ (omega (arith, l)) (text_stored _ _ _ _ _ _ (measured g d) _ _ _ c.if-buffer-length.false c.put_digits.ensures c.put_digits-2.ensures)
           ∙ ap (λ (text : List ℕ). text_left text c.args.buffer.now) (text_is g d),
     )

@@ -1,27 +1,58 @@
--- `LevelInLimits::ended` is the month's interest, and the level with it accrued and handed over. Assumes nothing.
-use mathlib.Core.Path.{◌≡◌, ap, ◌∙◌}
-use lib.IntN.{◌+ℤ◌}
-use mir.Syntax.{w64}
-use mir.Val.{to_z, of_z}
-use Rattle.ints.specs.Bound.{bounds, fits64}
-use Rattle.ints.specs.Exact.{exacts, exact}
-use Rattle.ints.specs.Range.{Within, between_same}
-use Rattle.electric_rules.specs.Levels.{handed_over}
-use Rattle.electric.proofs.Bills.{interest_within}
-use Rattle.electric.proofs.Parts.{same_interest}
+-- `LevelInLimits::ended` is the month's interest and the level at the month's end, or refuses it where a book may not store what is carried or
+-- accrued. Assumes nothing.
+use Rattle.std.specs.Prelude.{◌≡◌, Bool, false, ◌&&◌, Result, Ok, Err}
+use Rattle.std.proofs.Common.{rules, ap, sym, ◌∙◌}
+use Rattle.ints.specs.Flags.{and_false}
+use Rattle.refusals.specs.Rows.{stored_or_12}
+use Rattle.refusals.specs.declared.Refusal.{Refusal}
+use Rattle.refusals.specs.declared.Refusal.TheVariants.{NextOutOfLimits}
+use Rattle.refusals.proofs.TableLaws.{stored_within, refused_within}
+use Rattle.amounts.specs.declared.Cents.{Cents}
+use Rattle.amounts.specs.Amounts.{cents, cents_in_limits}
+use Rattle.electric_rules.specs.declared.Level.{Level}
+use Rattle.electric_rules.proofs.Changed.{ended_decides}
+use Rattle.electric_rules.specs.Levels.{bearing_of, interest_on, accrued_level, handed_over}
+use Rattle.electric_rules.specs.Limits.{level_in_limits}
 use Rattle.electric.proofs.levels.LevelInLimits.ended.Goals as goal
+use Rattle.electric.proofs.levels.LevelInLimits.ended.Goals.{After-after-next}
 
-pub overflow_add-accrued : goal.overflow_add-accrued
-overflow_add-accrued c =
-    let l = c.args.self in
-    let interest : Within 100000000000 c.interest-interest.result.0 = between_same (λ i. (c.interest-interest.ensures i).0) (interest_within c.args.month_end.posting.first l.level c.args.month_end.ranged.0 l.within) in
-    fits64 (search (bounds, interest, l.within.interest) depth 30) tt
+-- the month's interest and the level after it
+module _ (c : After-after-next) where
+  abbrev next : Level
+  next = handed_over c.args.month_end.entering (accrued_level c.args.month_end.posting.first c.args.self.level)
+
+  abbrev interest : Cents
+  interest = cents (interest_on c.args.month_end.posting.first (bearing_of c.args.self.level))
+
+  decides : level_in_limits next ≡ cents_in_limits next.carried && cents_in_limits next.interest
+  decides = ended_decides c.args.self.level c.args.self.in_limits c.args.month_end.entering c.args.month_end.posting.first
+
+  abbrev ended : Bool → Result (Cents × Level) Refusal
+  ended within = stored_or_12 within (interest, next)
+
+  refused : level_in_limits next ≡ false → {refusal : Refusal} → refusal ≡ NextOutOfLimits → Err refusal ≡ ended (level_in_limits next)
+  refused e r = ap Err r ∙ sym (ap ended e)
+
+pub returns-in_err-stored : goal.returns-in_err-stored
+returns-in_err-stored c =
+    let k = (goal.at.returns-in_err-stored c).After-after-next in
+    let refusal : c.from_residual.result ≡ Err c.in_err-stored.field-0.0 = search rules in
+    let out = refused_within _ _ c.in_err-stored.ensures in
+    let carried = (λ i. cents_in_limits (sym c.after-next.ensures i).carried) ∙ out.0 in
+    refusal ∙ refused k (decides k ∙ (λ i. carried i && cents_in_limits (next k).interest)) out.1
+
+pub returns-in_err-stored-2 : goal.returns-in_err-stored-2
+returns-in_err-stored-2 c =
+    let k = (goal.at.returns-in_err-stored-2 c).After-after-next in
+    let refusal : c.from_residual-in_err-stored-2.result ≡ Err c.in_err-stored-2.field-0.0 = search rules in
+    let out = refused_within _ _ c.in_err-stored-2.ensures in
+    let interest = (λ i. cents_in_limits (sym c.after-next.ensures i).interest) ∙ out.0 in
+    refusal ∙ refused k (decides k ∙ (λ i. cents_in_limits (next k).carried && interest i) ∙ and_false _) out.1
 
 pub returns : goal.returns
 returns c =
-    let l = c.args.self in
-    let interest : Within 100000000000 c.interest-interest.result.0 = between_same (λ i. (c.interest-interest.ensures i).0) (interest_within c.args.month_end.posting.first l.level c.args.month_end.ranged.0 l.within) in
-    let e : to_z w64 (of_z w64 (to_z w64 (of_z w64 l.level.interest.0) +ℤ to_z w64 (of_z w64 c.interest-interest.result.0))) ≡ l.level.interest.0 +ℤ c.interest-interest.result.0 = exact (search (exacts, interest, l.within.interest) depth 30) tt in
-    let accrued = same_interest l.level (e ∙ (λ i. l.level.interest.0 +ℤ (c.interest-interest.ensures i).0)) in
-    let next = c.handed_over.ensures ∙ ap (handed_over c.args.month_end.entering) accrued in
-    λ i. (c.interest-interest.ensures i, next i)
+    let k = (goal.at.returns c).After-after-next in
+    let carried = (λ i. cents_in_limits (sym c.after-next.ensures i).carried) ∙ (stored_within _ _ c.in_ok-stored.ensures).0 in
+    let accrued = (λ i. cents_in_limits (sym c.after-next.ensures i).interest) ∙ (stored_within _ _ c.in_ok-stored-2.ensures).0 in
+    (λ i. Ok (c.interest-interest.ensures i, c.after-next.ensures i))
+    ∙ sym (ap (ended k) (decides k ∙ (λ i. carried i && accrued i)))

@@ -7,12 +7,13 @@ use mir.Facts.{to_z-of_z}
 use borrow.Author.Rules.{rules}
 use Rattle.ints.specs.Exact.{exacts, exact}
 use Rattle.ints.specs.Range.{Within}
-use Rattle.riders.specs.Runs.{filed_run}
+use Rattle.refusals.specs.Rows.{stored_or_12}
+use Rattle.riders.specs.Runs.{filed_run, run_in_limits}
 use Rattle.electric_rules.specs.Levels.{owed_by}
 use Rattle.electric.proofs.levels.LevelInLimits.filing_of.Goals as goal
 
-same_filed : {a b x y : ℤ} → a ≡ b → x ≡ y → filed_run a x ≡ filed_run b y
-same_filed e f = λ i. filed_run (e i) (f i)
+same_filed : {a b x y : ℤ} → a ≡ b → x ≡ y → stored_or_12 (run_in_limits (filed_run a x)) (filed_run a x) ≡ stored_or_12 (run_in_limits (filed_run b y)) (filed_run b y)
+same_filed e f = λ i. stored_or_12 (run_in_limits (filed_run (e i) (f i))) (filed_run (e i) (f i))
 
 pub returns : goal.returns
 unfolding owed_by

@@ -1,0 +1,2 @@
+-- What a host is handed in place of a result.
+pub mod Results
