@@ -2,6 +2,10 @@
 
 #![forbid(unsafe_code)]
 
+pub mod checks;
+pub mod readable;
+pub mod ways;
+
 use std::fs;
 use std::path::{Path, PathBuf};
 
