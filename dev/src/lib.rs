@@ -3,6 +3,7 @@
 #![forbid(unsafe_code)]
 
 pub mod checks;
+pub mod markdown;
 pub mod readable;
 pub mod ways;
 
@@ -18,4 +19,37 @@ pub fn repository() -> PathBuf {
 pub fn text(path: &str) -> String {
     let file = repository().join(path);
     fs::read_to_string(&file).unwrap_or_else(|error| panic!("{path}: {error}"))
+}
+
+/// The files below a folder of the repository whose names end so, by their paths from the top, in order.
+pub fn files_below(folder: &str, ending: &str) -> Vec<String> {
+    let entries = fs::read_dir(repository().join(folder));
+    let entries = entries.unwrap_or_else(|error| panic!("{folder}: {error}"));
+    let mut files = Vec::new();
+    for entry in entries {
+        let entry = entry.unwrap_or_else(|error| panic!("{folder}: {error}"));
+        let path = format!("{folder}/{}", entry.file_name().to_string_lossy());
+        if entry.path().is_dir() {
+            files.extend(files_below(&path, ending));
+        } else if path.ends_with(ending) {
+            files.push(path);
+        }
+    }
+    files.sort();
+    files
+}
+
+/// A path as it is seen from a folder, both from the top, without `.` and `..`; none where it leaves the repository.
+pub fn resolved(folder: &str, path: &str) -> Option<String> {
+    let mut parts: Vec<&str> = Vec::new();
+    for part in folder.split('/').chain(path.split('/')) {
+        match part {
+            "" | "." => {}
+            ".." => {
+                parts.pop()?;
+            }
+            name => parts.push(name),
+        }
+    }
+    Some(parts.join("/"))
 }
