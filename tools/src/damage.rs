@@ -2,7 +2,8 @@
 
 use std::fmt;
 
-use crate::vocabulary::{Book, Field, HEAD_LENGTH, STEAM_OPENING_LENGTH};
+use crate::fields::Field;
+use crate::vocabulary::{Book, HEAD_LENGTH, STEAM_OPENING_LENGTH};
 
 #[derive(Clone, Copy, Debug, PartialEq, Eq)]
 pub enum Damage {
@@ -40,7 +41,7 @@ impl Damage {
             RecordCut { length, remain } => {
                 format!("the record has {length} bytes, {remain} are here")
             }
-            FieldOfZero { field } => format!("{} is written though it is 0", field.name()),
+            FieldOfZero { field } => format!("{} is written though it is 0", field.name),
             UnknownOpening(byte) => format!("{byte:02X} opens no book"),
             OpeningCut { remain } => {
                 format!("a steam opening has {STEAM_OPENING_LENGTH} bytes, {remain} are here")

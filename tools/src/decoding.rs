@@ -1,8 +1,9 @@
 //! Bytes to lines.
 
 use crate::damage::Damage;
+use crate::fields::Field;
 use crate::vocabulary::{
-    Book, Field, Kind, BYTES, DIVISIONS, FIELD_LENGTH, HEAD_LENGTH, LONGEST_JOURNAL, QUARTERS,
+    Book, Kind, BYTES, DIVISIONS, FIELD_LENGTH, HEAD_LENGTH, LONGEST_JOURNAL, QUARTERS,
     STEAM_OPENING, STEAM_OPENING_LENGTH,
 };
 

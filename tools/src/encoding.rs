@@ -1,24 +1,74 @@
 //! Lines to bytes.
 
-use crate::errors::{shown, Fault, LineError};
-use crate::vocabulary::{Book, Field, Kind, BYTES, DIVISIONS, QUARTERS, STEAM_OPENING};
+use crate::fields::Field;
+use crate::messages::{shown, Fault, LineError, Message};
+use crate::vocabulary::{pattern, Book, Kind, BYTES, DIVISIONS, QUARTERS, STEAM_OPENING};
 
 const EITHER_BOOK: &[Book] = &[Book::Electric, Book::Steam];
 
+/// Some editors write it in front of a text in UTF-8.
+const BYTE_ORDER_MARK: char = '\u{feff}';
+
+const REFUSED: &str = "the ledger refuses it (7)";
+const REFUSED_WITH_ALL: &str = "the ledger refuses it (7), and with it the whole journal";
+
+/// What lines give.
+#[derive(Clone, Debug, PartialEq, Eq)]
+pub struct Reading {
+    /// The bytes of the journal, unless a line is wrong.
+    pub journal: Option<Vec<u8>>,
+    /// What is told of the lines, in their order.
+    pub messages: Vec<Message>,
+}
+
 /// The bytes of the journal that the lines describe, or an error for each wrong line.
 pub fn to_bytes(text: &str) -> Result<Vec<u8>, Vec<LineError>> {
+    let Reading { journal, messages } = read_lines(text);
+    let errors = messages.into_iter().filter_map(|message| match message {
+        Message::Error(error) => Some(error),
+        Message::Warning(_) => None,
+    });
+    journal.ok_or_else(|| errors.collect())
+}
+
+/// The same bytes, with the warnings too: of each number that the ledger refuses.
+pub fn read_lines(text: &str) -> Reading {
     let mut draft = Draft::default();
-    let mut errors = Vec::new();
-    for (index, line) in text.lines().enumerate() {
-        let before_comment = line.split('#').next().unwrap_or_default();
-        let words: Vec<&str> = before_comment.split_whitespace().collect();
-        if let Err(fault) = draft.add(&words) {
-            errors.push(fault.at(index + 1, line));
+    let mut messages = Vec::new();
+    let text = text.strip_prefix(BYTE_ORDER_MARK).unwrap_or(text);
+    for (number, line) in (1..).zip(text.lines()) {
+        let line = line.split('#').next().unwrap_or_default();
+        let words: Vec<&str> = line.split_whitespace().collect();
+        match draft.add(&words) {
+            Ok(faults) => {
+                let warning = |fault| Message::warning(number, line, fault);
+                messages.extend(faults.into_iter().map(warning));
+            }
+            Err(fault) => messages.push(Message::Error(fault.at(number, line))),
         }
     }
-    match errors.is_empty() {
-        true => Ok(draft.bytes),
-        false => Err(errors),
+    let is_error = |message: &Message| matches!(message, Message::Error(_));
+    let journal = (!messages.iter().any(is_error)).then_some(draft.bytes);
+    Reading { journal, messages }
+}
+
+/// A right line: its bytes, and a warning of each number that the ledger refuses.
+struct Taken {
+    bytes: Vec<u8>,
+    warnings: Vec<String>,
+}
+
+impl Taken {
+    fn raw(bytes: Vec<u8>) -> Self {
+        let warnings = Vec::new();
+        Self { bytes, warnings }
+    }
+
+    fn judged(bytes: Vec<u8>, fields: &[Field], numbers: &[i64], refused: &str) -> Self {
+        let numbers = fields.iter().zip(numbers);
+        let faults = numbers.filter_map(|(field, &number)| field.range_fault(number));
+        let warnings = faults.map(|fault| format!("{fault}; {refused}")).collect();
+        Self { bytes, warnings }
     }
 }
 
@@ -32,48 +82,47 @@ struct Draft {
 }
 
 impl Draft {
-    fn add(&mut self, words: &[&str]) -> Result<(), Fault> {
+    /// Takes a line, and gives the warnings of it.
+    fn add(&mut self, words: &[&str]) -> Result<Vec<String>, Fault> {
         let Some((&word, rest)) = words.split_first() else {
-            return Ok(());
+            return Ok(Vec::new());
         };
         let is_first = !self.has_first_line;
         self.has_first_line = true;
+        let taken = self.taken(word, rest, is_first)?;
+        self.bytes.extend(taken.bytes);
+        Ok(taken.warnings)
+    }
+
+    fn taken(&mut self, word: &str, rest: &[&str], is_first: bool) -> Result<Taken, Fault> {
         match (word, is_first) {
-            (BYTES, _) => self.add_bytes(rest),
-            ("electric", true) => self.open(&[Book::Electric], electric_opening(rest)),
-            ("steam", true) => self.open(&[Book::Steam], steam_opening(rest)),
-            (_, true) => self.open(EITHER_BOOK, Err(no_opening(word))),
+            (BYTES, _) => self.raw(rest),
+            ("electric", true) => self.opened(&[Book::Electric], electric_opening(rest)),
+            ("steam", true) => self.opened(&[Book::Steam], steam_opening(rest)),
+            (_, true) => self.opened(EITHER_BOOK, Err(no_opening(word))),
             ("electric" | "steam", false) => Err(second_opening(word)),
-            (_, false) => self.add_record(word, rest),
+            (_, false) => record_of_any(self.books(), word, rest),
         }
     }
 
-    fn open(
+    fn opened(
         &mut self,
         supposed: &'static [Book],
-        opening: Result<Vec<u8>, Fault>,
-    ) -> Result<(), Fault> {
+        opening: Result<Taken, Fault>,
+    ) -> Result<Taken, Fault> {
         if opening.is_err() {
             self.supposed = Some(supposed);
         }
-        self.bytes.extend(opening?);
-        Ok(())
+        opening
     }
 
-    fn add_bytes(&mut self, words: &[&str]) -> Result<(), Fault> {
+    fn raw(&mut self, words: &[&str]) -> Result<Taken, Fault> {
         let bytes = raw_bytes(words);
         // Right bytes might have made the opening, so the lines after these are not blamed for it.
         if bytes.is_err() && self.books().is_empty() {
             self.supposed = Some(EITHER_BOOK);
         }
-        self.bytes.extend(bytes?);
-        Ok(())
-    }
-
-    fn add_record(&mut self, word: &str, words: &[&str]) -> Result<(), Fault> {
-        let record = record_of_any(self.books(), word, words)?;
-        self.bytes.extend(record);
-        Ok(())
+        bytes.map(Taken::raw)
     }
 
     /// The books that a record here may be of.
@@ -87,14 +136,11 @@ impl Draft {
     }
 }
 
-const STEAM_PATTERN: &str = "steam Q1 Q2 Q3 Q4";
-
 fn no_opening(word: &str) -> Fault {
     let fault = format!("{} opens no book", shown(word));
-    Fault::new(
-        fault,
-        format!("{}, {STEAM_PATTERN} or {BYTES}", electric_patterns(", ")),
-    )
+    let electric = electric_patterns(", ");
+    let steam = pattern("steam", &QUARTERS);
+    Fault::new(fault, format!("{electric}, {steam} or {BYTES}"))
 }
 
 fn second_opening(word: &str) -> Fault {
@@ -108,13 +154,13 @@ fn electric_patterns(parting: &str) -> String {
         .join(parting)
 }
 
-fn electric_opening(words: &[&str]) -> Result<Vec<u8>, Fault> {
+fn electric_opening(words: &[&str]) -> Result<Taken, Fault> {
     let division = match words {
         [word] => DIVISIONS.iter().position(|division| division == word),
         _ => None,
     };
     match (division, words) {
-        (Some(opening), _) => Ok(vec![opening as u8]),
+        (Some(opening), _) => Ok(Taken::raw(vec![opening as u8])),
         (None, [word]) => {
             let fault = format!("{} is no division", shown(word));
             Err(Fault::new(fault, electric_patterns(" or ")))
@@ -126,10 +172,11 @@ fn electric_opening(words: &[&str]) -> Result<Vec<u8>, Fault> {
     }
 }
 
-fn steam_opening(words: &[&str]) -> Result<Vec<u8>, Fault> {
+fn steam_opening(words: &[&str]) -> Result<Taken, Fault> {
     let quarters = numbers("steam", &QUARTERS, words)?;
-    let fields = quarters.into_iter().flat_map(i64::to_be_bytes);
-    Ok([STEAM_OPENING].into_iter().chain(fields).collect())
+    let fields = quarters.iter().flat_map(|quarter| quarter.to_be_bytes());
+    let bytes = [STEAM_OPENING].into_iter().chain(fields).collect();
+    Ok(Taken::judged(bytes, &QUARTERS, &quarters, REFUSED_WITH_ALL))
 }
 
 /// The bytes of words that are each one or more pairs of hexadecimal digits.
@@ -154,14 +201,24 @@ fn word_bytes(word: &str) -> Option<Vec<u8>> {
     is_even.then(|| pairs.map(|pair| (pair[0] << 4 | pair[1]) as u8).collect())
 }
 
-/// The record of the first of the books in which the line is one.
-fn record_of_any(books: &[Book], word: &str, words: &[&str]) -> Result<Vec<u8>, Fault> {
+/// The record of the book in which the line is one; of two such books, that which refuses the fewest of its numbers.
+fn record_of_any(books: &[Book], word: &str, words: &[&str]) -> Result<Taken, Fault> {
+    let mut records = Vec::new();
     let mut faults = Vec::new();
     for kind in books.iter().filter_map(|book| book.kind_of_word(word)) {
         match numbers(kind.word, kind.fields, words) {
-            Ok(numbers) => return Ok(record(kind, &numbers)),
+            Ok(numbers) => {
+                let bytes = record(kind, &numbers);
+                records.push(Taken::judged(bytes, kind.fields, &numbers, REFUSED));
+            }
             Err(fault) => faults.push(fault),
         }
+    }
+    let least_refused = records
+        .into_iter()
+        .min_by_key(|record| record.warnings.len());
+    if let Some(record) = least_refused {
+        return Ok(record);
     }
     let expectations = faults.iter().map(|fault| fault.expected.as_str());
     let expected = expectations.collect::<Vec<_>>().join(", or ");
@@ -186,25 +243,14 @@ fn unknown_word(books: &[Book], word: &str) -> Fault {
 
 /// A number for each of the fields.
 fn numbers(first_word: &str, fields: &[Field], words: &[&str]) -> Result<Vec<i64>, Fault> {
-    let names = fields.iter().map(|field| field.name());
-    let pattern = [first_word]
-        .into_iter()
-        .chain(names)
-        .collect::<Vec<_>>()
-        .join(" ");
+    let pattern = pattern(first_word, fields);
     if words.len() != fields.len() {
         return Err(Fault::new(word_count(first_word, words.len()), pattern));
     }
     let mut numbers = Vec::new();
     for (field, word) in fields.iter().zip(words) {
-        let fault = || {
-            format!(
-                "{} for {} is no {}",
-                shown(word),
-                field.name(),
-                field.meaning()
-            )
-        };
+        let (word_shown, name) = (shown(word), field.name);
+        let fault = || format!("{word_shown} for {name} is no {}", field.expectation());
         let number = field.number_of(word);
         numbers.push(number.ok_or_else(|| Fault::new(fault(), pattern.clone()))?);
     }

@@ -1,6 +1,10 @@
-//! The words of lines beside the numbers of journals: openings, kinds and fields, as in document 01.
+//! The table of the language of lines: openings, kinds and fields, with their words, meanings and ranges.
+//!
+//! Words, numbers and ranges are document 01's; the help is written and each line is judged from this table.
 
-use Field::{Level, Number};
+use crate::fields::Range::{Between, Either};
+use crate::fields::Unit::{Cents, Kwh, Level, MillionthsAYear, Mmbtu, Months};
+use crate::fields::{Field, Range, Unit};
 
 /// The most bytes that the journal program reads.
 pub const LONGEST_JOURNAL: usize = 65_536;
@@ -11,13 +15,7 @@ pub const BYTES: &str = "bytes";
 /// Each division's opening byte is its place here.
 pub const DIVISIONS: [&str; 2] = ["L&P", "MPS"];
 
-/// Each level's number is its place here.
-pub const LEVELS: [&str; 2] = ["secondary", "primary"];
-
 pub const STEAM_OPENING: u8 = 2;
-
-/// The quarters of a steam opening, oldest first.
-pub const QUARTERS: [Field; 4] = [Number("Q1"), Number("Q2"), Number("Q3"), Number("Q4")];
 
 pub const FIELD_LENGTH: usize = 8;
 
@@ -32,49 +30,212 @@ pub enum Book {
     Steam,
 }
 
-/// A field of a record, with its name where it is shown to a person.
-#[derive(Clone, Copy, Debug, PartialEq, Eq)]
-pub enum Field {
-    Number(&'static str),
-    /// A number too, but 0 and 1 have words.
-    Level,
-}
-
 /// A kind of posting in one book.
 #[derive(Debug, PartialEq, Eq)]
 pub struct Kind {
     pub number: u8,
     pub word: &'static str,
+    pub meaning: &'static str,
     /// The field of bit 0 first.
     pub fields: &'static [Field],
 }
 
-const fn kind(number: u8, word: &'static str, fields: &'static [Field]) -> Kind {
+const fn field(name: &'static str, meaning: &'static str, unit: Unit, range: Range) -> Field {
+    Field {
+        name,
+        meaning,
+        unit,
+        range,
+    }
+}
+
+const fn kind(
+    number: u8,
+    word: &'static str,
+    meaning: &'static str,
+    fields: &'static [Field],
+) -> Kind {
     Kind {
         number,
         word,
+        meaning,
         fields,
     }
 }
 
+const fn up_to(most: i64) -> Range {
+    Between(0, most)
+}
+
+const fn plus_minus(most: i64) -> Range {
+    Between(-most, most)
+}
+
+const fn quarter(name: &'static str, meaning: &'static str) -> Field {
+    field(name, meaning, Mmbtu, up_to(100_000_000))
+}
+
+/// The quarters of a steam opening, oldest first.
+pub const QUARTERS: [Field; 4] = [
+    quarter("Q1", "sales, four quarters ago"),
+    quarter("Q2", "sales, three quarters ago"),
+    quarter("Q3", "sales, two quarters ago"),
+    quarter("Q4", "sales, the last quarter"),
+];
+
+const fn level(meaning: &'static str) -> Field {
+    field("LEVEL", meaning, Level, Between(0, 1))
+}
+
+const fn cost(name: &'static str, meaning: &'static str) -> Field {
+    field(name, meaning, Cents, plus_minus(10_000_000_000))
+}
+
+const fn sold(name: &'static str, meaning: &'static str) -> Field {
+    field(name, meaning, Kwh, up_to(10_000_000_000))
+}
+
+const fn estimate(name: &'static str, meaning: &'static str) -> Field {
+    field(name, meaning, Kwh, Between(1, 10_000_000_000))
+}
+
+const USAGE: &str = "usage; below 0 cancels a bill";
+
 const ELECTRIC_KINDS: [Kind; 6] = [
-    kind(1, "cost", &[Number("F"), Number("P"), Number("E")]),
-    kind(2, "sales", &[Number("SECONDARY"), Number("PRIMARY")]),
-    kind(3, "bill", &[Level, Number("KWH")]),
-    kind(4, "settle", &[Number("RS"), Number("RP")]),
-    kind(5, "month-end", &[Number("RATE")]),
-    kind(6, "adjust", &[Level, Number("CENTS")]),
+    kind(
+        1,
+        "cost",
+        "what the open period cost",
+        &[
+            cost("F", "fuel"),
+            cost("P", "purchased power"),
+            cost("E", "emission allowances"),
+        ],
+    ),
+    kind(
+        2,
+        "sales",
+        "what was sold in the open period",
+        &[
+            sold("SECONDARY", "sold at secondary level"),
+            sold("PRIMARY", "sold at primary level"),
+        ],
+    ),
+    kind(
+        3,
+        "bill",
+        "a bill; the answer is its line",
+        &[
+            level("the customer's level"),
+            field("KWH", USAGE, Kwh, plus_minus(1_000_000_000)),
+        ],
+    ),
+    kind(
+        4,
+        "settle",
+        "only in November and May: files a factor a level",
+        &[
+            estimate("RS", "estimated secondary sales"),
+            estimate("RP", "estimated primary sales"),
+        ],
+    ),
+    kind(
+        5,
+        "month-end",
+        "adds interest and ends the month",
+        &[field(
+            "RATE",
+            "yearly rate; 60000 is 6%",
+            MillionthsAYear,
+            up_to(200_000),
+        )],
+    ),
+    kind(
+        6,
+        "adjust",
+        "changes the carried cents of a level",
+        &[
+            level("the level that it changes"),
+            field(
+                "CENTS",
+                "what the cents grow by",
+                Cents,
+                plus_minus(10_000_000_000),
+            ),
+        ],
+    ),
 ];
 
 const STEAM_KINDS: [Kind; 7] = [
-    kind(1, "cost", &[Number("CENTS")]),
-    kind(2, "sales", &[Number("MMBTU")]),
-    kind(3, "bill", &[Number("MMBTU")]),
-    kind(4, "settle", &[Number("B")]),
-    kind(5, "month-end", &[]),
-    kind(6, "adjust", &[Number("N"), Number("G")]),
-    kind(7, "reconcile", &[Number("MONTHS"), Number("D")]),
+    kind(
+        1,
+        "cost",
+        "what the open period cost",
+        &[cost("CENTS", "cost")],
+    ),
+    kind(
+        2,
+        "sales",
+        "what was sold in the open period",
+        &[field("MMBTU", "sold", Mmbtu, up_to(100_000_000))],
+    ),
+    kind(
+        3,
+        "bill",
+        "a bill; the answer is its line",
+        &[field("MMBTU", USAGE, Mmbtu, plus_minus(10_000_000))],
+    ),
+    kind(
+        4,
+        "settle",
+        "only in March, June, September and December: files a factor",
+        &[field(
+            "B",
+            "adjustment of a year's sales",
+            Mmbtu,
+            plus_minus(100_000_000),
+        )],
+    ),
+    kind(5, "month-end", "ends the month, without interest", &[]),
+    kind(
+        6,
+        "adjust",
+        "changes the carried account; 10 times N's size must be above G",
+        &[
+            field(
+                "N",
+                "what the account grows by",
+                Cents,
+                plus_minus(10_000_000_000),
+            ),
+            field("G", "annual fuel cost, or 0", Cents, up_to(100_000_000_000)),
+        ],
+    ),
+    kind(
+        7,
+        "reconcile",
+        "spreads the carried account over months",
+        &[
+            field("MONTHS", "how many months", Months, Either(12, 24)),
+            field(
+                "D",
+                "sales over those months",
+                Mmbtu,
+                Between(1, 100_000_000),
+            ),
+        ],
+    ),
 ];
+
+/// A line's word with the names of its fields.
+pub fn pattern(word: &str, fields: &[Field]) -> String {
+    let names = fields.iter().map(|field| field.name);
+    [word]
+        .into_iter()
+        .chain(names)
+        .collect::<Vec<_>>()
+        .join(" ")
+}
 
 impl Book {
     /// The book that the bytes at the front of a journal open, if they open one.
@@ -92,6 +253,14 @@ impl Book {
         }
     }
 
+    /// The month of a book that was just opened.
+    pub fn first_month(self) -> &'static str {
+        match self {
+            Book::Electric => "June",
+            Book::Steam => "January",
+        }
+    }
+
     pub fn kinds(self) -> &'static [Kind] {
         match self {
             Book::Electric => &ELECTRIC_KINDS,
@@ -105,49 +274,6 @@ impl Book {
 
     pub fn kind_of_number(self, number: u8) -> Option<&'static Kind> {
         self.kinds().iter().find(|kind| kind.number == number)
-    }
-}
-
-impl Field {
-    pub fn name(self) -> &'static str {
-        match self {
-            Number(name) => name,
-            Level => "LEVEL",
-        }
-    }
-
-    /// The word of a number in this field.
-    pub fn word_of(self, number: i64) -> String {
-        let level = match self {
-            Number(_) => None,
-            Level => usize::try_from(number).ok(),
-        };
-        match level.and_then(|level| LEVELS.get(level)) {
-            Some(word) => word.to_string(),
-            None => number.to_string(),
-        }
-    }
-
-    /// The number of a word in this field.
-    pub fn number_of(self, word: &str) -> Option<i64> {
-        let level = match self {
-            Number(_) => None,
-            Level => LEVELS.iter().position(|&level| level == word),
-        };
-        match level {
-            Some(level) => Some(level as i64),
-            // A plus is no part of a whole number here, so that a number has one way to be written.
-            None if word.starts_with('+') => None,
-            None => word.parse().ok(),
-        }
-    }
-
-    /// What a word in this field has to be.
-    pub fn meaning(self) -> &'static str {
-        match self {
-            Number(_) => "64-bit whole number",
-            Level => "level (secondary, primary or a 64-bit whole number)",
-        }
     }
 }
 
@@ -187,34 +313,5 @@ mod tests {
         assert_eq!(Book::opened_by(&[2; 33]), Some(Book::Steam));
         assert_eq!(Book::opened_by(&[3; 33]), None);
         assert_eq!(Book::opened_by(&[255]), None);
-    }
-
-    #[test]
-    fn levels_have_words_and_any_other_number_is_itself() {
-        for (number, word) in [(0, "secondary"), (1, "primary"), (2, "2"), (-1, "-1")] {
-            assert_eq!(Level.word_of(number), word);
-            assert_eq!(Level.number_of(word), Some(number));
-        }
-        assert_eq!(Level.number_of("0"), Some(0));
-        assert_eq!(Number("U").number_of("secondary"), None);
-        assert_eq!(Number("U").word_of(1), "1");
-    }
-
-    #[test]
-    fn a_number_is_all_64_bits_and_no_more() {
-        for number in [i64::MIN, -1, 0, i64::MAX] {
-            let word = Number("U").word_of(number);
-            assert_eq!(Number("U").number_of(&word), Some(number));
-        }
-        for word in [
-            "9223372036854775808",
-            "-9223372036854775809",
-            "+1",
-            "-",
-            "1,000",
-            "1.5",
-        ] {
-            assert_eq!(Number("U").number_of(word), None, "{word}");
-        }
     }
 }

@@ -4,7 +4,7 @@ use std::collections::BTreeSet;
 use std::fs;
 use std::path::{Path, PathBuf};
 
-use journal_lines::{to_bytes, to_lines};
+use journal_lines::{language, read_lines, to_bytes, to_lines, Message};
 
 /// Every kind's word is at its number.
 const WORDS: [&str; 8] = [
@@ -136,6 +136,73 @@ fn assert_each_record<'a>(
         !read_on || records.next().is_none(),
         "{name}: a record without an answer"
     );
+}
+
+fn number_of_warning(message: &Message) -> usize {
+    match message {
+        Message::Warning(warning) => warning.number,
+        Message::Error(error) => panic!("{error}"),
+    }
+}
+
+/// Of lines that are records, those that are printed as refused 7 and no other have a number out of range.
+#[test]
+fn a_record_that_is_refused_7_is_warned_of() {
+    let mut warnings = 0;
+    for name in names("lines") {
+        let lines = text(&name, "lines");
+        let refused = (1..).zip(lines.lines()).filter_map(|(number, line)| {
+            let (word, comment) = parts(line)?;
+            (word != "bytes" && comment.starts_with("refused 7: ")).then_some(number)
+        });
+        let messages = read_lines(&lines).messages;
+        // A line with two such numbers has two warnings.
+        let warned: BTreeSet<usize> = BTreeSet::from_iter(messages.iter().map(number_of_warning));
+        assert_eq!(BTreeSet::from_iter(refused), warned, "{name}");
+        warnings += warned.len();
+    }
+    assert!(warnings >= 7, "{warnings}");
+}
+
+#[test]
+fn the_language_stands_in_the_readme() {
+    let readme = text("README", "md");
+    let (_, section) = readme.split_once("## The language of lines\n").unwrap();
+    let (_, block) = section.split_once("```text\n").unwrap();
+    let (block, _) = block.split_once("```\n").unwrap();
+    assert_eq!(block, language());
+}
+
+/// The warning that the README quotes is one of that file.
+#[test]
+fn the_readmes_warning_is_told() {
+    let readme = text("README", "md");
+    let quoted = readme
+        .lines()
+        .find_map(|line| line.strip_prefix("    examples/"));
+    let (name, _) = quoted.unwrap().split_once(".lines:").unwrap();
+    let messages = read_lines(&text(name, "lines")).messages;
+    let mut told = messages
+        .iter()
+        .map(|message| message.in_file(&format!("{name}.lines")));
+    assert!(told.any(|told| told == quoted.unwrap()));
+}
+
+/// The lines that are shown and the answers below them are the front of an example.
+#[test]
+fn the_language_shows_a_journal_that_is_run() {
+    let language = language();
+    let (_, shown) = language.split_once("A whole journal\n\n").unwrap();
+    let indented = |line: &&str| line.starts_with("  ");
+    let mut blocks = shown.split("\n\n").filter(indented);
+    let lines = to_bytes(blocks.next().unwrap()).unwrap();
+    assert!(bytes("electric-year", "journal").starts_with(&lines));
+    let answers = blocks.last().unwrap().lines();
+    let answers: String = answers
+        .map(|answer| answer.trim_start().to_string() + "\n")
+        .collect();
+    assert!(text("electric-year", "printed").starts_with(&answers));
+    assert_eq!(answers.lines().count(), 4);
 }
 
 /// A program under proof is run on files of its own crate, so `crates/journals` has a copy of each example.

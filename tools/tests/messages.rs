@@ -57,6 +57,13 @@ fn told_of_line_2(opening: &str, cases: &[(&str, &str)]) {
 }
 
 #[test]
+fn a_comment_is_not_told() {
+    let told = messages("electric L&P # division 0\n cost 1 # June\n");
+    let cost = "line 2: \"cost 1\": 1 word after cost; expected cost F P E";
+    assert_eq!(told, [cost]);
+}
+
+#[test]
 fn a_wrong_electric_record() {
     let words = "expected cost, sales, bill, settle, month-end, adjust, bytes";
     let unknown = |word: &str| format!("\"{word}\" starts no record of the electric book; {words}");

@@ -43,7 +43,7 @@ impl Random {
 }
 
 /// Every line's first word and how many numbers it has; a level is the first number where it has one.
-const ELECTRIC: [(&str, usize, bool); 6] = [
+pub const ELECTRIC: [(&str, usize, bool); 6] = [
     ("cost", 3, false),
     ("sales", 2, false),
     ("bill", 2, true),
@@ -51,7 +51,7 @@ const ELECTRIC: [(&str, usize, bool); 6] = [
     ("month-end", 1, false),
     ("adjust", 2, true),
 ];
-const STEAM: [(&str, usize, bool); 7] = [
+pub const STEAM: [(&str, usize, bool); 7] = [
     ("cost", 1, false),
     ("sales", 1, false),
     ("bill", 1, false),

@@ -1,4 +1,4 @@
-//! What is wrong with a line.
+//! What is told of a line: an error or a warning.
 
 use std::error::Error;
 use std::fmt;
@@ -11,12 +11,52 @@ const SHOWN_CHARACTERS: usize = 80;
 pub struct LineError {
     /// The line's number, the first being 1.
     pub number: usize,
-    /// The line as it stands, without the blanks around it.
+    /// The line up to its comment, without the blanks around it.
     pub line: String,
     /// What is wrong with it.
     pub fault: String,
     /// What could stand there.
     pub expected: String,
+}
+
+/// A line that has its bytes, but that the ledger refuses.
+#[derive(Clone, Debug, PartialEq, Eq)]
+pub struct LineWarning {
+    /// The line's number, the first being 1.
+    pub number: usize,
+    /// The line up to its comment, without the blanks around it.
+    pub line: String,
+    /// What the ledger refuses in it.
+    pub fault: String,
+}
+
+#[derive(Clone, Debug, PartialEq, Eq)]
+pub enum Message {
+    Error(LineError),
+    Warning(LineWarning),
+}
+
+impl Message {
+    pub(crate) fn warning(number: usize, line: &str, fault: String) -> Self {
+        let line = line.trim().to_string();
+        Self::Warning(LineWarning {
+            number,
+            line,
+            fault,
+        })
+    }
+
+    /// The message with its place in front, as compilers write it: `FILE:LINE: `.
+    pub fn in_file(&self, file: &str) -> String {
+        match self {
+            Message::Error(error) => format!("{file}:{}: {}", error.number, error.text()),
+            Message::Warning(LineWarning {
+                number,
+                line,
+                fault,
+            }) => format!("{file}:{number}: warning: {}: {fault}", shown(line)),
+        }
+    }
 }
 
 /// A fault whose line is not known yet.
@@ -44,19 +84,16 @@ impl Fault {
     }
 }
 
+impl LineError {
+    fn text(&self) -> String {
+        let line = shown(&self.line);
+        format!("{line}: {}; expected {}", self.fault, self.expected)
+    }
+}
+
 impl fmt::Display for LineError {
     fn fmt(&self, formatter: &mut fmt::Formatter<'_>) -> fmt::Result {
-        let Self {
-            number,
-            line,
-            fault,
-            expected,
-        } = self;
-        let line = shown(line);
-        write!(
-            formatter,
-            "line {number}: {line}: {fault}; expected {expected}"
-        )
+        write!(formatter, "line {}: {}", self.number, self.text())
     }
 }
 
@@ -79,6 +116,15 @@ mod tests {
         let error = Fault::new("2 words after cost", "cost F P E").at(7, "  cost 1 2\r");
         let text = r#"line 7: "cost 1 2": 2 words after cost; expected cost F P E"#;
         assert_eq!(error.to_string(), text);
+        let text = r#"a.lines:7: "cost 1 2": 2 words after cost; expected cost F P E"#;
+        assert_eq!(Message::Error(error).in_file("a.lines"), text);
+    }
+
+    #[test]
+    fn a_warning_says_that_it_is_one() {
+        let warning = Message::warning(9, " bill 2 10", "no level".to_string());
+        let text = r#"a.lines:9: warning: "bill 2 10": no level"#;
+        assert_eq!(warning.in_file("a.lines"), text);
     }
 
     #[test]
