@@ -17,5 +17,6 @@ mod plain;
 mod program;
 mod random_journals;
 mod sides;
+mod warned;
 mod written;
 mod wrong_journals;
