@@ -94,7 +94,7 @@ static void print_electric_book(neapscroll_electric_book book)
     print_level("primary", book.primary);
 }
 
-/* L&P from June to March: document 01's settlement in November, billed from March on, and a next period open. */
+/* L&P from June to March: a settlement in November, billed from March on, and a next period open. */
 static void electric(void)
 {
     neapscroll_posting cost = {NEAPSCROLL_COST, 1500000, 400000, 100000};
@@ -174,7 +174,7 @@ static void print_steam_book(neapscroll_steam_book book)
     printf(" months %u\n", (unsigned)book.reconciliation.months);
 }
 
-/* Document 01's quarter settled in March, with an H so far off that b counts; a surcharge reconciled over a year. */
+/* A quarter settled in March, more than 5% off that of a year before; then a surcharge reconciled over a year. */
 static void steam(void)
 {
     neapscroll_posting cost = {NEAPSCROLL_COST, 3700000, 0, 0};
@@ -232,7 +232,7 @@ static void rounding(void)
     printf("weight %" PRId64 "\n", neapscroll_weight(65065800000, 42492400000));
 }
 
-/* Document 01's journal: an opening and three records; then the same with a byte too few for its text. */
+/* A journal: an opening and three records; then the same with a byte too few for its text. */
 static void journal(void)
 {
     static const uint8_t input[] = {

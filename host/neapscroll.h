@@ -2,6 +2,8 @@
  * Neapscroll, the rider ledger: an electric book (fuel adjustment clause) and a steam book (quarterly cost adjustment).
  *
  * Declares what the proved static library libneapscroll.a exports, for C99 and C++; docs/LINKING.md says how to link it.
+ * docs/GLOSSARY.md explains the terms; docs/REFUSALS.md says of each refusal what causes it and what to do.
+ *
  * A book is a struct that the host owns: it goes in by value, and the next one comes back with the reply. A byte slice
  * is a pointer and a length, in that order. No call allocates, keeps anything, or has a precondition on its numbers.
  */
@@ -16,45 +18,59 @@
 extern "C" {
 #endif
 
-/* What a number in a reply says: none, or which row of document 01's refusal table applied first. */
+/* A reply's number: 0, or the first refusal that applies. A refusal leaves book, place and buffer as they were. */
 enum neapscroll_refusal {
     NEAPSCROLL_ACCEPTED = 0,
-    NEAPSCROLL_NO_RECORD = 1,              /* fewer than 2 bytes remain */
-    NEAPSCROLL_UNKNOWN_KIND = 2,           /* the book has no such kind */
-    NEAPSCROLL_STRAY_FIELD = 3,            /* a field, or a number other than 0, that the kind lacks */
-    NEAPSCROLL_RECORD_CUT = 4,             /* fewer bytes remain than the record has */
-    NEAPSCROLL_FIELD_OF_ZERO = 5,          /* a field present is 0 */
-    NEAPSCROLL_BOOK_OUTSIDE_LIMITS = 6,    /* the book handed in stores what no book that was opened ever does */
-    NEAPSCROLL_FIELD_OUT_OF_RANGE = 7,     /* also at opening */
-    NEAPSCROLL_FORBIDDEN_NOW = 8,          /* the month or the settled state forbids it */
-    NEAPSCROLL_RECONCILIATION_RUNS = 9,    /* reconcile while one runs */
-    NEAPSCROLL_NOTHING_SOLD = 10,          /* a settlement without sales */
-    NEAPSCROLL_ADJUSTMENT_TOO_SMALL = 11,  /* 10 times its size is not above the annual fuel cost */
-    NEAPSCROLL_OUTSIDE_LIMITS = 12,        /* the next book would store a value outside its limits */
-    NEAPSCROLL_BUFFER_TOO_SHORT = 13       /* the bytes to be written have no room */
+    NEAPSCROLL_NO_RECORD = 1,              /* reading: fewer than 2 bytes remain, as at the end of the bytes */
+    NEAPSCROLL_UNKNOWN_KIND = 2,           /* the book has no such kind: any but 1 to 6, for steam any but 1 to 7 */
+    NEAPSCROLL_STRAY_FIELD = 3,            /* a bit of the bit map, or a number other than 0, that the kind lacks */
+    NEAPSCROLL_RECORD_CUT = 4,             /* reading: fewer bytes remain than the record has by its bit map */
+    NEAPSCROLL_FIELD_OF_ZERO = 5,          /* reading: a field that the bit map names is 0, and should be left out */
+    NEAPSCROLL_BOOK_OUTSIDE_LIMITS = 6,    /* the book handed in has a value outside its limits: damaged or not opened */
+    NEAPSCROLL_FIELD_OUT_OF_RANGE = 7,     /* a number outside its range below; at opening the division or a quarter */
+    NEAPSCROLL_FORBIDDEN_NOW = 8,          /* the month or its settlement: as a cost once settled, or settle in June */
+    NEAPSCROLL_RECONCILIATION_RUNS = 9,    /* steam: reconcile while a reconciliation has months left */
+    NEAPSCROLL_NOTHING_SOLD = 10,          /* settle without sales; for steam also with less than 1 mmBtu to file over */
+    NEAPSCROLL_ADJUSTMENT_TOO_SMALL = 11,  /* steam: adjust by no more than a tenth of the annual fuel cost */
+    NEAPSCROLL_OUTSIDE_LIMITS = 12,        /* the next book would hold a value outside the limits of the structs below */
+    NEAPSCROLL_BUFFER_TOO_SHORT = 13       /* writing: the bytes to be written have no room in the buffer */
 };
 
-/* Kinds of a posting, with its numbers in order: first, second, third. */
+/* Kinds of a posting, each with its numbers in order, first, second, third, and the range of each. */
 enum neapscroll_kind {
-    NEAPSCROLL_COST = 1,       /* electric: fuel, purchased energy, emission allowances in cents; steam: cents */
-    NEAPSCROLL_SALES = 2,      /* electric: secondary, primary kWh; steam: mmBtu */
-    NEAPSCROLL_BILL = 3,       /* electric: level, kWh; steam: mmBtu; below 0 for a cancelled bill */
-    NEAPSCROLL_SETTLE = 4,     /* electric: estimated sales secondary, primary; steam: adjustment of the sales */
-    NEAPSCROLL_MONTH_END = 5,  /* electric: yearly rate in millionths; steam: none */
-    NEAPSCROLL_ADJUST = 6,     /* electric: level, cents; steam: cents, annual fuel cost (0 for other refunds) */
-    NEAPSCROLL_RECONCILE = 7   /* steam alone: 12 or 24 months, sales */
+    /* electric: cents of fuel, of purchased energy and of emission allowances, -10^10 to 10^10 each */
+    /* steam: cents of fuel, -10^10 to 10^10 */
+    NEAPSCROLL_COST = 1,
+    /* electric: kWh sold at the secondary and at the primary level, 0 to 10^10 each */
+    /* steam: mmBtu sold, 0 to 10^8 */
+    NEAPSCROLL_SALES = 2,
+    /* electric: level, 0 to 1; kWh, -10^9 to 10^9, below 0 for a cancelled bill */
+    /* steam: mmBtu, -10^7 to 10^7, likewise */
+    NEAPSCROLL_BILL = 3,
+    /* electric: kWh estimated for the twelve months of the new run, secondary and primary, 1 to 10^10 each */
+    /* steam: mmBtu added to the year's sales where the quarter's are more than 5% off a year before, -10^8 to 10^8 */
+    NEAPSCROLL_SETTLE = 4,
+    /* electric: yearly interest rate in millionths, 0 to 200,000: 60,000 is 6% */
+    /* steam: none */
+    NEAPSCROLL_MONTH_END = 5,
+    /* electric: level, 0 to 1; cents, -10^10 to 10^10, below 0 for a refund */
+    /* steam: cents, -10^10 to 10^10, likewise; cents of annual fuel cost, 0 to 10^11, 0 where no review asks for it */
+    NEAPSCROLL_ADJUST = 6,
+    /* steam: months, 12 or 24; mmBtu estimated for them, 1 to 10^8 */
+    /* electric: no such kind */
+    NEAPSCROLL_RECONCILE = 7
 };
 
 enum neapscroll_level_number { NEAPSCROLL_SECONDARY = 0, NEAPSCROLL_PRIMARY = 1 };
 
 enum neapscroll_division { NEAPSCROLL_L_AND_P = 0, NEAPSCROLL_MPS = 1 };
 
-/* Money in whole cents. */
+/* Money in whole cents; a book holds -10^12 to 10^12. */
 typedef struct neapscroll_cents {
     int64_t cents;
 } neapscroll_cents;
 
-/* A factor: points of $0.0001 per kWh or per million BTU. */
+/* A factor: points of $0.0001 per kWh or per million BTU (mmBtu); a book holds -99,999 to 99,999. */
 typedef struct neapscroll_points {
     int32_t points;
 } neapscroll_points;
@@ -67,13 +83,19 @@ typedef struct neapscroll_posting {
     int64_t third;
 } neapscroll_posting;
 
-/* A factor and the cents that are still due under it. */
+/* A factor, and the cents that bills at it have still to bring in: below 0 for a credit, or once they brought in more. */
 typedef struct neapscroll_run {
     neapscroll_points factor;
     neapscroll_cents due;
 } neapscroll_run;
 
-/* A voltage level of the electric book: document 01's C, I, pending q and Q, and two runs. */
+/*
+ * A voltage level of the electric book.
+ * carried: cents that earlier runs left, and adjustments; the next settlement files them.
+ * interest: cents accrued since the last settlement; the next settlement files them.
+ * pending: what the last settlement filed, until the end of February or August makes a run of it.
+ * first, second: the runs that bills are at, November's settlement from March on, May's from September on, a year each.
+ */
 typedef struct neapscroll_level {
     neapscroll_cents carried;
     neapscroll_cents interest;
@@ -82,19 +104,26 @@ typedef struct neapscroll_level {
     neapscroll_run second;
 } neapscroll_level;
 
-/* kWh by level. */
+/* kWh by level, 0 to 10^10 each. */
 typedef struct neapscroll_sales {
     int64_t secondary;
     int64_t primary;
 } neapscroll_sales;
 
-/* The open period: document 01's K, Ss and Sp, and rem in hundred-thousandths of a cent. */
+/*
+ * The open period. cost, sales: since the last settlement. remainder: what rounding the customers' shares to whole cents
+ * has left over, in hundred-thousandths of a cent, -50,000 to 50,000.
+ */
 typedef struct neapscroll_electric_period {
     neapscroll_cents cost;
     neapscroll_sales sales;
     int64_t remainder;
 } neapscroll_electric_period;
 
+/*
+ * division: of enum neapscroll_division. month: 1 to 12.
+ * settled: whether the month's settlement is done; November and May have one.
+ */
 typedef struct neapscroll_electric_book {
     uint8_t division;
     uint8_t month;
@@ -104,20 +133,29 @@ typedef struct neapscroll_electric_book {
     neapscroll_level primary;
 } neapscroll_electric_book;
 
-/* The open quarter: document 01's K, B in mmBtu, and rem in ten-thousandths of a cent. */
+/*
+ * The open quarter. cost, sales: since the last settlement, sales in mmBtu, 0 to 10^8. remainder: what rounding the
+ * customers' shares to whole cents has left over, in ten-thousandths of a cent, -5,000 to 5,000.
+ */
 typedef struct neapscroll_steam_period {
     neapscroll_cents cost;
     int64_t sales;
     int64_t remainder;
 } neapscroll_steam_period;
 
-/* The reconciliation run and the months that it has left, 0 where none runs. */
+/* A run over carried cents. months: those that it has left, at most 24; all is 0 where none runs. */
 typedef struct neapscroll_reconciliation {
     neapscroll_run run;
     uint8_t months;
 } neapscroll_reconciliation;
 
-/* Past quarters stand oldest first; factors and dues are of runs 1 to 4; carried is document 01's account A. */
+/*
+ * month: 1 to 12. settled: whether the month's settlement is done; March, June, September and December have one.
+ * quarters: mmBtu sold in the last four settled quarters, oldest first, 0 to 10^8 each.
+ * carried: cents that runs left, and adjustments; a reconciliation makes a run of them.
+ * pending: what the last settlement filed, until the end of February, May, August or November makes a run of it.
+ * factors, dues: of runs 1 to 4, which begin in March, June, September and December, a year each.
+ */
 typedef struct neapscroll_steam_book {
     uint8_t month;
     bool settled;
@@ -130,13 +168,13 @@ typedef struct neapscroll_steam_book {
     neapscroll_reconciliation reconciliation;
 } neapscroll_steam_book;
 
-/* Cents of either level. */
+/* Cents of both levels. */
 typedef struct neapscroll_level_cents {
     neapscroll_cents secondary;
     neapscroll_cents primary;
 } neapscroll_level_cents;
 
-/* Points of either level. */
+/* Points of both levels. */
 typedef struct neapscroll_level_points {
     neapscroll_points secondary;
     neapscroll_points primary;
@@ -203,7 +241,10 @@ neapscroll_written neapscroll_write_points(neapscroll_points points, uint8_t *bu
 /* round(a/b), a half going away from zero; 0 for b below 1. */
 int64_t neapscroll_round_div(int64_t a, int64_t b);
 
-/* The secondary level's weight, of 100,000; 0 where an amount is below 0 or above 2 * 10^15. */
+/*
+ * The secondary level's weight in a settlement, of 100,000, by kWh times loss factor of either level; 0 where one of them
+ * is below 0 or above 2 * 10^15.
+ */
 int64_t neapscroll_weight(int64_t secondary, int64_t primary);
 
 /* How many bytes the journal program prints for an input: at most 41 * input_length + 82. */

@@ -3,8 +3,12 @@
 #![forbid(unsafe_code)]
 
 pub mod checks;
+pub mod definitions;
+pub mod header;
 pub mod markdown;
+pub mod rattle;
 pub mod readable;
+pub mod tables;
 pub mod ways;
 
 use std::fs;

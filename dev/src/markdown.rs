@@ -42,6 +42,26 @@ pub fn links(line: &str) -> (Vec<Link<'_>>, String) {
     (links, left + rest)
 }
 
+/// The one link of a table's cell.
+pub fn link(cell: &str) -> Link<'_> {
+    let (mut links, left) = links(cell);
+    let one = links.pop().filter(|_| links.is_empty() && left.is_empty());
+    one.unwrap_or_else(|| panic!("no link: {cell}"))
+}
+
+/// What stands in code marks.
+pub fn marks(text: &str) -> Vec<&str> {
+    text.split('`').skip(1).step_by(2).collect()
+}
+
+/// The sections, each a heading of the second level with the text below it.
+pub fn sections(page: &str) -> Vec<(&str, &str)> {
+    let parts = page.split("\n## ").skip(1);
+    parts
+        .map(|part| part.split_once('\n').unwrap_or((part, "")))
+        .collect()
+}
+
 /// The lines that stand in no fence, each with its number from 1.
 pub fn lines(text: &str) -> impl Iterator<Item = (usize, &str)> {
     let mut fenced = false;
@@ -76,7 +96,8 @@ pub fn anchors(text: &str) -> Vec<String> {
     anchors
 }
 
-fn anchor(heading: &str) -> String {
+/// What a link to the heading ends in, behind `#`, where no heading above is the same.
+pub fn anchor(heading: &str) -> String {
     let (links, words) = links(heading);
     let texts = links.iter().map(|link| link.text).collect::<String>();
     // A heading is a link as a whole, or has none.

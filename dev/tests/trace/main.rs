@@ -1,7 +1,6 @@
 //! docs/trace has each rule of the paper with the names that define, code, prove, try and test it. Every name is held to what it names.
 
 mod calls;
-mod definitions;
 mod index;
 mod names;
 mod pages;

@@ -1,8 +1,8 @@
 //! Whether a name is in the file that is linked.
 
-use crate::definitions::declares;
 use crate::pages::{Named, Role};
 use crate::source::{items, Item, Sort};
+use neapscroll_dev::definitions::declares;
 use neapscroll_dev::{files_below, repository, text};
 
 /// What is linked, by its path.
