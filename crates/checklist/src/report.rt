@@ -1,11 +1,11 @@
-// A line for each fact, with what was seen and what it should be, and the count of them.
+// Histories under their names: a line for each posting, a line for each fact, seen beside what it should be, and the count of facts.
 use crate::shown::{self, Shown};
 use refusals::Refusal;
 use std::fmt::Display;
 use std::io;
 use std::io::Stdout;
 
-// Where facts are printed, those checked so far, those that are as they should be, and the first error of a line that was not taken.
+// Where lines are printed, the facts checked so far, those that are as they should be, and the first error of a line that was not taken.
 #[derive(Drop)]
 pub(crate) struct Tally {
     output: Stdout,
@@ -24,17 +24,21 @@ impl Tally {
         }
     }
 
-    // Checks the facts of a history. Where a posting that it needs is refused, that is a fact that is wrong, and the rest isn't checked.
+    // Walks a history and checks its facts, below its name and that of the example that holds it. Where a posting that it needs is refused,
+    // that is a fact that is wrong, and the rest isn't checked.
     pub(crate) fn history<F: FnOnce(&mut Tally) -> Result<(), Refusal>>(
         &mut self,
         what: &str,
+        example: &str,
         facts: F,
     )
         requires { F.IsAlwaysCallable facts }
     {
+        self.print(format_args!("== {what}: examples/{example}.lines"));
         if let Err(refusal) = facts(self) {
             self.fact(what, Shown(refusal), "accepted");
         }
+        self.print("");
     }
 
     // Checks what was seen against its text. A program has room for far fewer facts than would wrap the counts.
@@ -43,12 +47,17 @@ impl Tally {
         self.checks = self.checks.wrapping_add(1);
         self.right = self.right.wrapping_add(u64::from(right));
         let mark = if right { "ok   " } else { "WRONG" };
-        let printed = println!(self.output; "{mark} {what}: {seen}, should be {text}");
-        self.keep(printed);
+        self.print(format_args!("{mark} {what}: {seen}, should be {text}"));
+    }
+
+    // A line of a journal. Only these begin with blanks.
+    pub(crate) fn line<D: Display + Drop>(&mut self, line: D) {
+        self.print(format_args!("    {line}"));
     }
 
     // Where a line was not taken the next is tried all the same.
-    fn keep(&mut self, printed: io::Result<()>) {
+    pub(crate) fn print<D: Display + Drop>(&mut self, line: D) {
+        let printed = println!(self.output; "{line}");
         if self.written.is_ok() {
             self.written = printed;
         }
@@ -57,11 +66,10 @@ impl Tally {
     // The count of facts, and what is to be said where a line was not taken.
     pub(crate) fn print_count(mut self, rt: &impl Eprint) {
         let Tally { checks, right, .. } = self;
-        let printed = println!(self.output; "{checks} checks, {right} as they should be");
-        self.keep(printed);
+        self.print(format_args!("{checks} checks, {right} as they should be"));
         if self.written.is_err() {
             // Where this fails too, nothing is left to say it to.
-            let _ = eprintln!(rt; "checklist: not all facts could be written");
+            let _ = eprintln!(rt; "checklist: not all lines could be written");
         }
     }
 }

@@ -177,7 +177,7 @@ fn expect_stored(name: &str, said: &str) {
 
 #[test]
 fn checklist_and_quotients_say_what_they_cannot_write() {
-    expect_stored("checklist", "checklist: not all facts could be written\n");
+    expect_stored("checklist", "checklist: not all lines could be written\n");
     expect_stored(
         "quotients",
         "quotients: not all quotients could be written\n",
