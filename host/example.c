@@ -103,7 +103,12 @@ static void electric(void)
     neapscroll_posting bill = {NEAPSCROLL_BILL, NEAPSCROLL_SECONDARY, 1000000, 0};
     neapscroll_posting cancelled = {NEAPSCROLL_BILL, NEAPSCROLL_PRIMARY, -10, 0};
     neapscroll_posting refund = {NEAPSCROLL_ADJUST, NEAPSCROLL_PRIMARY, -90, 0};
-    neapscroll_electric_book book = neapscroll_electric_open(NEAPSCROLL_L_AND_P).book;
+    neapscroll_electric_reply opened = neapscroll_electric_open(NEAPSCROLL_L_AND_P);
+    if (opened.number != NEAPSCROLL_ACCEPTED) {
+        print_refusal(opened.number);
+        return;
+    }
+    neapscroll_electric_book book = opened.book;
     book = electric_post(book, cost);
     book = electric_post(book, sales);
     /* June settles nothing: the book stays as it was, and the same settlement is taken in November. */
@@ -184,7 +189,12 @@ static void steam(void)
     neapscroll_posting small = {NEAPSCROLL_ADJUST, 100000, 1000000, 0};
     neapscroll_posting enough = {NEAPSCROLL_ADJUST, 100001, 1000000, 0};
     neapscroll_posting reconcile = {NEAPSCROLL_RECONCILE, 12, 40000, 0};
-    neapscroll_steam_book book = neapscroll_steam_open(9000, 10000, 10000, 10000).book;
+    neapscroll_steam_reply opened = neapscroll_steam_open(9000, 10000, 10000, 10000);
+    if (opened.number != NEAPSCROLL_ACCEPTED) {
+        print_refusal(opened.number);
+        return;
+    }
+    neapscroll_steam_book book = opened.book;
     book = steam_post(book, cost);
     book = steam_post(book, sales);
     book = steam_month_ends(book, 2);

@@ -5,7 +5,8 @@
  * docs/GLOSSARY.md explains the terms; docs/REFUSALS.md says of each refusal what causes it and what to do.
  *
  * A book is a struct that the host owns: it goes in by value, and the next one comes back with the reply. A byte slice
- * is a pointer and a length, in that order. No call allocates, keeps anything, or has a precondition on its numbers.
+ * is a pointer and a length, in that order. No call allocates, keeps anything, or has a precondition on its numbers; what
+ * it takes for granted of a pointer, a bool and overlapping buffers is in docs/LINKING.md, Conventions.
  */
 #ifndef NEAPSCROLL_H
 #define NEAPSCROLL_H
@@ -214,13 +215,16 @@ typedef struct neapscroll_written {
     size_t length;
 } neapscroll_written;
 
-/* The fresh electric book of a division, in June. Refused (7): L&P's. */
+/* The fresh electric book of a division, in June. Refused (7) above 1: L&P's comes back, which is not to be posted to. */
 neapscroll_electric_reply neapscroll_electric_open(uint8_t division);
 
 /* What a posting to an electric book gives. Refused (2, 3, 6, 7, 8, 10, 12): the book as it was. */
 neapscroll_electric_reply neapscroll_electric_post(neapscroll_electric_book book, neapscroll_posting posting);
 
-/* The fresh steam book after four quarters' sales in mmBtu, oldest first, in January. Refused (7): after four zeros. */
+/*
+ * The fresh steam book after four quarters' sales in mmBtu, oldest first, in January. Refused (7) outside 0 to 10^8: the
+ * book after four zeros comes back, which is not to be posted to.
+ */
 neapscroll_steam_reply neapscroll_steam_open(int64_t first, int64_t second, int64_t third, int64_t fourth);
 
 /* What a posting to a steam book gives. Refused (2, 3, 6 to 12): the book as it was. */

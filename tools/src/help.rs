@@ -5,7 +5,7 @@ use crate::vocabulary::{pattern, Book, BYTES, DIVISIONS, QUARTERS};
 
 /// How far the longest line's word with its fields reaches, and the longest name, meaning and unit of a field.
 const PATTERN: usize = 23;
-const NAME: usize = 9;
+const NAME: usize = 10;
 const MEANING: usize = 29;
 const UNIT: usize = 17;
 
@@ -119,7 +119,9 @@ fn example() -> String {
         "A whole journal
 
 {EXAMPLE}
-With these lines in FILE, make the bytes of the journal and run the journal program on them:
+With these lines in FILE, make the bytes of the journal and run the journal program on them, which
+in the repository is crates/neapscroll/out/neapscroll, once built. Where a line is wrong no bytes
+are made, and JOURNAL is left empty:
 
   lines to-bytes FILE > JOURNAL
   neapscroll < JOURNAL

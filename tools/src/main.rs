@@ -20,6 +20,9 @@ lines --help has the whole language of lines.
 
 const VERSION: &str = concat!("lines ", env!("CARGO_PKG_VERSION"), "\n");
 
+/// What is told behind the errors.
+const HELP: &str = "lines --help says what a line may be";
+
 /// How standard input is named in front of what is told.
 const STANDARD_INPUT: &str = "standard input";
 
@@ -75,7 +78,8 @@ fn journal_of(name: &str, text: Vec<u8>) -> Turned {
     let length = output
         .as_ref()
         .and_then(|journal| length_warning(name, journal));
-    let told = messages.chain(length).collect();
+    let help = output.is_none().then(|| HELP.to_string());
+    let told = messages.chain(length).chain(help).collect();
     Turned { told, output }
 }
 

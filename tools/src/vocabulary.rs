@@ -108,7 +108,7 @@ const ELECTRIC_KINDS: [Kind; 6] = [
         "what the open period cost",
         &[
             cost("F", "fuel"),
-            cost("P", "purchased power"),
+            cost("P", "purchased energy"),
             cost("E", "emission allowances"),
         ],
     ),
@@ -190,7 +190,7 @@ const STEAM_KINDS: [Kind; 7] = [
         "settle",
         "only in March, June, September and December: files a factor",
         &[field(
-            "B",
+            "ADJUSTMENT",
             "adjustment of a year's sales",
             Mmbtu,
             plus_minus(100_000_000),

@@ -138,7 +138,7 @@ fn a_wrong_steam_record() {
                 "bill secondary 5",
                 "2 words after bill; expected bill MMBTU",
             ),
-            ("settle", "nothing after settle; expected settle B"),
+            ("settle", "nothing after settle; expected settle ADJUSTMENT"),
             (
                 "month-end 60000",
                 "1 word after month-end; expected month-end",

@@ -7,6 +7,9 @@ use std::process::{Command, Output, Stdio};
 
 use journal_lines::language;
 
+/// What stands behind errors.
+const HELP: &str = "lines --help says what a line may be\n";
+
 fn run(arguments: &[&str], input: &[u8]) -> Output {
     let mut program = Command::new(env!("CARGO_BIN_EXE_lines"));
     program.args(arguments);
@@ -47,7 +50,7 @@ fn wrong_lines_are_told_on_the_error_stream() {
     let told = "standard input:2: \"cost 1\": 1 word after cost; expected cost F P E\n\
         standard input:3: \"bill \u{fffd} 2\": \"\u{fffd}\" for LEVEL is no level \
         (secondary, primary or a 64-bit whole number); expected bill LEVEL KWH\n";
-    assert_printed(&output, 1, b"", told);
+    assert_printed(&output, 1, b"", &format!("{told}{HELP}"));
 }
 
 /// A file with the text, in a place that is named in full.
@@ -66,7 +69,8 @@ fn errors_and_warnings_begin_with_file_and_line() {
              0 to 1 (secondary or primary); the ledger refuses it (7)\n\
              {name}:5: \"cost 1\": 1 word after cost; expected cost F P E\n\
              {name}:6: warning: \"month-end 200001\": 200001 for RATE is out of its range, \
-             0 to 200,000; the ledger refuses it (7)\n"
+             0 to 200,000; the ledger refuses it (7)\n\
+             {HELP}"
         )
     };
     let path = file("wrong.lines", text);

@@ -70,7 +70,7 @@ const STEAM_FIELDS: [Field; 7] = [
     ),
     (
         "settle _",
-        "B",
+        "ADJUSTMENT",
         [-100_000_000, 100_000_000],
         "-100,000,000 to 100,000,000",
     ),
