@@ -78,53 +78,54 @@ fn the_header_has_the_ranges_of_the_table_of_kinds() {
     assert_eq!(seen, 14, "kinds of both books");
 }
 
-/// Limits in the header's comments, each with the constant of the code that says it.
+/// The limits of what a book holds: the header's words, and the constant with the crate that has it.
+const LIMITS: [(&str, &str, &str); 8] = [
+    (
+        "whole cents; a book holds -10^12 to 10^12",
+        "amounts",
+        "MOST: i64 = 1_000_000_000_000",
+    ),
+    (
+        "(mmBtu); a book holds -99,999 to 99,999",
+        "amounts",
+        "MOST: i32 = 99_999",
+    ),
+    (
+        "kWh by level, 0 to 10^10 each",
+        "electric_rules",
+        "MOST_KWH: i64 = 10_000_000_000",
+    ),
+    (
+        "hundred-thousandths of a cent, -50,000 to 50,000",
+        "electric_rules",
+        "MOST_REMAINDER: i64 = 50_000",
+    ),
+    (
+        "sales in mmBtu, 0 to 10^8",
+        "steam_rules",
+        "MOST_MMBTU: i64 = 100_000_000",
+    ),
+    (
+        "oldest first, 0 to 10^8 each",
+        "steam_rules",
+        "MOST_MMBTU: i64 = 100_000_000",
+    ),
+    (
+        "ten-thousandths of a cent, -5,000 to 5,000",
+        "steam_rules",
+        "MOST_REMAINDER: i64 = 5_000",
+    ),
+    (
+        "those that it has left, at most 24",
+        "steam_rules",
+        "MOST_MONTHS: u8 = 24",
+    ),
+];
+
 #[test]
 fn the_header_has_the_limits_of_the_code() {
-    let limits = [
-        (
-            "whole cents; a book holds -10^12 to 10^12",
-            "amounts",
-            "MOST: i64 = 1_000_000_000_000",
-        ),
-        (
-            "(mmBtu); a book holds -99,999 to 99,999",
-            "amounts",
-            "MOST: i32 = 99_999",
-        ),
-        (
-            "kWh by level, 0 to 10^10 each",
-            "electric_rules",
-            "MOST_KWH: i64 = 10_000_000_000",
-        ),
-        (
-            "hundred-thousandths of a cent, -50,000 to 50,000",
-            "electric_rules",
-            "MOST_REMAINDER: i64 = 50_000",
-        ),
-        (
-            "sales in mmBtu, 0 to 10^8",
-            "steam_rules",
-            "MOST_MMBTU: i64 = 100_000_000",
-        ),
-        (
-            "oldest first, 0 to 10^8 each",
-            "steam_rules",
-            "MOST_MMBTU: i64 = 100_000_000",
-        ),
-        (
-            "ten-thousandths of a cent, -5,000 to 5,000",
-            "steam_rules",
-            "MOST_REMAINDER: i64 = 5_000",
-        ),
-        (
-            "those that it has left, at most 24",
-            "steam_rules",
-            "MOST_MONTHS: u8 = 24",
-        ),
-    ];
     let header = text(HEADER).replace("\n * ", " ");
-    for (words, crate_name, constant) in limits {
+    for (words, crate_name, constant) in LIMITS {
         assert!(header.contains(words), "the header does not say: {words}");
         let source = text(&format!("crates/{crate_name}/src/lib.rt"));
         let declared = format!("pub const {constant};");
