@@ -5,7 +5,7 @@ const MODULES: [&str; 8] = [
     "Rattle.", "Prim.", "lib.", "mathlib.", "mir.", "denote.", "borrow.", "native.",
 ];
 
-/// Lines that say nothing of a goal.
+/// How lines begin that say nothing of a goal.
 const PASSED_OVER: [&str; 8] = [
     "rt: note",
     "rt: chose",
@@ -17,21 +17,33 @@ const PASSED_OVER: [&str; 8] = [
     "checked ",
 ];
 
+/// What stands in other such lines: of what has no goal, of a check's beginning, and of names that are the prover's own.
+const SAYS_NOTHING: [&str; 4] = [
+    ": no holes",
+    ": begins with what a check kept",
+    "rt: --generated ",
+    "Rattle's own names, which may change",
+];
+
 /// The lines that tell of goals, with names and operators as a person writes them.
 pub fn readable(printed: &str) -> String {
     let told = printed.lines().filter(|line| tells(line));
-    told.map(|line| match line.trim_start().starts_with("use ") {
+    let told = told.map(|line| {
         // An import is there to be copied.
-        true => format!("{line}\n"),
-        false => shortened(line) + "\n",
-    })
-    .collect()
+        let is_import = line.trim_start().starts_with("use ");
+        let line = if is_import {
+            line.to_string()
+        } else {
+            shortened(line)
+        };
+        line + "\n"
+    });
+    told.collect()
 }
 
 fn tells(line: &str) -> bool {
     let passed_over = PASSED_OVER.iter().any(|start| line.starts_with(start));
-    let proved = line.starts_with("fn ") && line.ends_with("no holes");
-    !passed_over && !proved && !line.contains("names, which may change")
+    !passed_over && !SAYS_NOTHING.iter().any(|words| line.contains(words))
 }
 
 /// `Prim.Native.Nat.◌≤◌ a 10` as `a ≤ 10`, and `lib.ListN.length xs` as `length xs`.
@@ -60,19 +72,20 @@ impl<'a> Parts<'a> {
     /// All parts up to the bracket that closes them, an operator between its two operands.
     fn written(&mut self) -> String {
         let mut written = String::new();
-        while let Some(part) = self.next_part() {
+        while let Some(part) = self.next_part(ends_in_a_term(&written)) {
             written += &part;
         }
         written
     }
 
-    fn next_part(&mut self) -> Option<String> {
+    /// Behind a term an operator is that term's argument, and stays as it is named.
+    fn next_part(&mut self, is_argument: bool) -> Option<String> {
         let first = self.rest.chars().next()?;
         match first {
             ')' | ']' | '}' => None,
             '(' | '[' | '{' => Some(self.group(first)),
             _ if is_blank_or_mark(first) => Some(self.take(first.len_utf8())),
-            _ => Some(self.named()),
+            _ => Some(self.named(is_argument)),
         }
     }
 
@@ -83,12 +96,12 @@ impl<'a> Parts<'a> {
         format!("{open}{inside}{}", self.take(close))
     }
 
-    fn named(&mut self) -> String {
+    fn named(&mut self, is_argument: bool) -> String {
         let end = self.rest.find(ends_a_name).unwrap_or(self.rest.len());
         let name = last_part(&self.take(end)).to_string();
         match operator(&name) {
-            Some(operator) => self.between(operator).unwrap_or(name),
-            None => name,
+            Some(operator) if !is_argument => self.between(operator).unwrap_or(name),
+            _ => name,
         }
     }
 
@@ -102,12 +115,18 @@ impl<'a> Parts<'a> {
         operands.map(|(left, right)| format!("{left} {operator} {right}"))
     }
 
+    /// The next operand; what stands in braces before it is no operand but a type that the operator is of.
     fn operand(&mut self) -> Option<String> {
-        self.rest = self.rest.trim_start();
-        let first = self.rest.chars().next()?;
-        match is_blank_or_mark(first) {
-            true => None,
-            false => self.next_part(),
+        loop {
+            self.rest = self.rest.trim_start();
+            let first = self.rest.chars().next()?;
+            if is_blank_or_mark(first) {
+                return None;
+            }
+            let part = self.next_part(true)?;
+            if first != '{' {
+                return Some(part);
+            }
         }
     }
 
@@ -120,6 +139,17 @@ impl<'a> Parts<'a> {
 
 fn is_blank_or_mark(character: char) -> bool {
     character.is_whitespace() || matches!(character, ';' | ',' | '`')
+}
+
+/// Whether a name or a group stands last, and no sign between terms as `≡` or `×`.
+fn ends_in_a_term(written: &str) -> bool {
+    let last = written
+        .trim_end_matches(' ')
+        .rsplit(is_blank_or_mark)
+        .next();
+    last.is_some_and(|word| {
+        word.contains(|c: char| c.is_alphanumeric() || matches!(c, ')' | ']' | '}'))
+    })
 }
 
 fn ends_a_name(character: char) -> bool {
@@ -166,6 +196,14 @@ mod tests {
     fn an_operator_without_operands_stays() {
         assert_eq!(shortened("use X.{◌≡◌, ◌≤◌}"), "use X.{◌≡◌, ◌≤◌}");
         assert_eq!(shortened("Prim.Native.Nat.◌+◌ a"), "◌+◌ a");
+    }
+
+    #[test]
+    fn an_operator_that_is_an_argument_stays_and_a_type_in_braces_goes() {
+        assert_eq!(shortened("fold lib.Nat.◌+◌ 0 xs"), "fold ◌+◌ 0 xs");
+        assert_eq!(shortened("a ≡ Path.◌+◌ b c"), "a ≡ Path.◌+◌ b c");
+        assert_eq!(shortened("a ≡ lib.Nat.◌+◌ b c"), "a ≡ b + c");
+        assert_eq!(shortened("mathlib.Path.◌≡◌ {ℕ} a (b c)"), "a ≡ (b c)");
     }
 
     #[test]

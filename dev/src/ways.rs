@@ -19,61 +19,99 @@ struct State {
     learnt: Vec<String>,
 }
 
-/// The ways of a function, of its modules `Lts` and `Lts.View`.
-pub fn ways(lts: &str, view: &str) -> Vec<Way> {
-    let states = states(lts);
-    let views = records(view);
-    let first_state = |place: &str| {
-        let fields = views.get(&format!("In-{place}"))?;
-        let before = fields.iter().find(|(name, _)| name == "before")?;
-        Some(before.1.trim_start_matches("Lts.").to_string())
-    };
-    let earlier = |place: &str| {
-        let fields = views.get(&format!("Earlier-{place}"));
-        let names = fields.into_iter().flatten().map(|(name, _)| name.clone());
-        names.filter(|name| name != place).collect()
-    };
-    let goals = goals(view).into_iter();
-    goals
-        .map(|(goal, place)| Way {
-            steps: first_state(&place).map_or_else(Vec::new, |state| steps(&states, &state)),
-            earlier: earlier(&place),
-            given: place,
-            goal,
-        })
-        .collect()
+/// Where a goal is asked: a state, as it is or as it is shown to answers.
+enum Place {
+    State(String),
+    View(String),
 }
 
-/// Each goal with the place at which it is asked: `Named-GOAL` is a statement over `In-PLACE`.
-fn goals(view: &str) -> Vec<(String, String)> {
-    let mut goals = Vec::new();
-    let mut goal = None;
+/// The fields of records by their names, each with the first word of its type.
+type Records = BTreeMap<String, Vec<(String, String)>>;
+
+/// The ways of a function, of its modules `Lts` and `Lts.View`; an error names a goal whose place could not be read.
+pub fn ways(lts: &str, view: &str) -> Result<Vec<Way>, String> {
+    let states = states(lts);
+    let views = records(view);
+    let way = |(goal, place): (String, Option<Place>)| {
+        let way = place.and_then(|place| way_to(&goal, place, &views, &states));
+        way.ok_or_else(|| format!("the place of the goal {goal} could not be read"))
+    };
+    goals(view).into_iter().map(way).collect()
+}
+
+fn way_to(
+    goal: &str,
+    place: Place,
+    views: &Records,
+    states: &BTreeMap<String, State>,
+) -> Option<Way> {
+    let (state, given, earlier) = match place {
+        Place::State(state) => (state.clone(), state, Vec::new()),
+        Place::View(given) => {
+            let before = views.get(&format!("In-{given}"))?;
+            let (_, state) = before.iter().find(|(name, _)| name == "before")?;
+            let state = state_name(state)?.to_string();
+            let earlier = earlier(views, &given);
+            (state, given, earlier)
+        }
+    };
+    let steps = steps(states, &state)?;
+    let goal = goal.to_string();
+    Some(Way {
+        goal,
+        given,
+        steps,
+        earlier,
+    })
+}
+
+/// The places before a view that its goals may go back to.
+fn earlier(views: &Records, given: &str) -> Vec<String> {
+    let fields = views.get(&format!("Earlier-{given}"));
+    let names = fields.into_iter().flatten().map(|(name, _)| name);
+    names.filter(|name| *name != given).cloned().collect()
+}
+
+/// Each goal with its place: `Named-GOAL` is a statement over `In-PLACE` or `Lts.STATE`.
+fn goals(view: &str) -> Vec<(String, Option<Place>)> {
+    let mut goals: Vec<(String, Option<Place>)> = Vec::new();
     for line in view.lines().map(str::trim_start) {
         if let Some(named) = line.strip_prefix("abbrev pub Named-") {
-            goal = named.split(' ').next().map(str::to_string);
-        } else if let Some(given) = line.strip_prefix("(c : In-") {
-            let end = given.find([' ', ')']).unwrap_or(given.len());
-            goals.extend(goal.take().map(|goal| (goal, given[..end].to_string())));
+            let goal = named.split(' ').next().unwrap_or(named);
+            goals.push((goal.to_string(), None));
+        } else if let (Some(given), Some((_, place @ None))) =
+            (line.strip_prefix("(c : "), goals.last_mut())
+        {
+            *place = given.split([' ', ')']).next().and_then(place_of);
         }
     }
     goals
 }
 
-/// The fields of each record, with the first word of their types.
-fn records(module: &str) -> BTreeMap<String, Vec<(String, String)>> {
+fn place_of(given: &str) -> Option<Place> {
+    let state = state_name(given).map(|state| Place::State(state.to_string()));
+    let view = given.strip_prefix("In-");
+    state.or_else(|| view.map(|view| Place::View(view.to_string())))
+}
+
+/// The name behind that of the module of states: `Lts`, or `Lts-NAME` of a function that calls itself.
+fn state_name(name: &str) -> Option<&str> {
+    let (module, state) = name.split_once('.')?;
+    module.starts_with("Lts").then_some(state)
+}
+
+fn records(module: &str) -> Records {
     let mut records = BTreeMap::new();
     let mut current: Option<(usize, String)> = None;
     for line in module.lines() {
         let word = line.trim_start();
         let indent = line.len() - word.len();
+        let left = |(outer, _): &(usize, String)| !word.is_empty() && indent <= *outer;
         if let Some(name) = word.strip_prefix("pub record ") {
             let name = name.split(' ').next().unwrap_or(name).to_string();
             records.insert(name.clone(), Vec::new());
             current = Some((indent, name));
-        } else if current
-            .as_ref()
-            .is_some_and(|(outer, _)| !word.is_empty() && indent <= *outer)
-        {
+        } else if current.as_ref().is_some_and(left) {
             current = None;
         } else if let (Some((_, name)), Some(field)) = (&current, field(word)) {
             records.entry(name.clone()).or_default().push(field);
@@ -105,24 +143,31 @@ fn states(lts: &str) -> BTreeMap<String, State> {
 
 /// A step of the source, with the outcome of a test; none where the prover made it up, whose names end in `-1`.
 fn step(field: &str, of_type: &str) -> Option<String> {
-    let made = of_type.starts_with("Own-") || of_type.starts_with("Step-");
-    let outcome = match () {
-        _ if of_type.starts_with("Own-Then") => ".true",
-        _ if of_type.starts_with("Own-Else") => ".false",
-        _ => "",
+    let made = ["Own-", "Step-", "Arm-"];
+    let made = made.iter().any(|start| of_type.starts_with(start));
+    let outcome = if of_type.starts_with("Own-Then") {
+        ".true"
+    } else if of_type.starts_with("Own-Else") {
+        ".false"
+    } else {
+        ""
     };
     (made && !field.ends_with("-1")).then(|| format!("{field}{outcome}"))
 }
 
-fn steps(states: &BTreeMap<String, State>, last: &str) -> Vec<String> {
+/// The steps up to a state, the first one first; none where a state on the way is not there.
+fn steps(states: &BTreeMap<String, State>, last: &str) -> Option<Vec<String>> {
     let mut steps = Vec::new();
-    let mut at = states.get(last);
-    while let Some(state) = at {
-        steps.extend(state.learnt.iter().rev().cloned());
-        at = state.before.as_ref().and_then(|before| states.get(before));
+    let mut at = states.get(last)?;
+    loop {
+        steps.extend(at.learnt.iter().rev().cloned());
+        match &at.before {
+            Some(before) => at = states.get(before)?,
+            None => break,
+        }
     }
     steps.reverse();
-    steps
+    Some(steps)
 }
 
 #[cfg(test)]
@@ -146,6 +191,9 @@ mod tests {
       pub record Else1 : Type 0 where
         pub before : After-buffer
         pub if-fits : Own-Else1 before
+      pub record Past-Then1 : Type 0 where
+        pub before : Start
+        pub in-arm : Arm-Then1 before
 ";
     const VIEW: &str = "
       pub record In-After-width : Type 0 where
@@ -162,28 +210,49 @@ mod tests {
       abbrev pub Named-returns : Type 0
       Named-returns =
           (c : In-Then-fits) → gives
+      abbrev pub Named-returns-2 : Type 0
+      Named-returns-2 =
+          (c : Lts.Else1 the-claims the-Pre) → record {
+            part : (c : Lts.Start) → gives
+      abbrev pub Named-returns-in-arm : Type 0
+      Named-returns-in-arm =
+          (c : Lts-name.Past-Then1 the-claims) → gives
 ";
 
-    #[test]
-    fn each_goal_has_its_way() {
-        let add = Way {
-            goal: "add-width".to_string(),
-            given: "After-width".to_string(),
-            steps: vec!["width".to_string()],
-            earlier: vec![],
-        };
-        let returns = Way {
-            goal: "returns".to_string(),
-            given: "Then-fits".to_string(),
-            steps: vec!["width".to_string(), "if-fits.true".to_string()],
-            earlier: vec!["After-width".to_string()],
-        };
-        assert_eq!(ways(LTS, VIEW), [add, returns]);
+    fn way(goal: &str, given: &str, steps: &[&str], earlier: &[&str]) -> Way {
+        let owned = |names: &[&str]| names.iter().map(|name| name.to_string()).collect();
+        Way {
+            goal: goal.to_string(),
+            given: given.to_string(),
+            steps: owned(steps),
+            earlier: owned(earlier),
+        }
     }
 
     #[test]
-    fn the_other_branch_is_told_apart() {
-        let view = VIEW.replace("Lts.Then1", "Lts.Else1");
-        assert_eq!(ways(LTS, &view)[1].steps, ["width", "if-fits.false"]);
+    fn each_goal_has_its_way() {
+        let expected = [
+            way("add-width", "After-width", &["width"], &[]),
+            way(
+                "returns",
+                "Then-fits",
+                &["width", "if-fits.true"],
+                &["After-width"],
+            ),
+            way("returns-2", "Else1", &["width", "if-fits.false"], &[]),
+            way("returns-in-arm", "Past-Then1", &["in-arm"], &[]),
+        ];
+        assert_eq!(ways(LTS, VIEW), Ok(Vec::from(expected)));
+    }
+
+    #[test]
+    fn a_place_that_is_not_read_is_an_error() {
+        let unread = |goal: &str| Err(format!("the place of the goal {goal} could not be read"));
+        let view = VIEW.replace("(c : In-Then-fits)", "(c : Another)");
+        assert_eq!(ways(LTS, &view), unread("returns"));
+        let view = VIEW.replace("(c : Lts.Else1 ", "(c : Lts.Else2 ");
+        assert_eq!(ways(LTS, &view), unread("returns-2"));
+        let lts = LTS.replace("record After-buffer ", "record After-buffer2 ");
+        assert_eq!(ways(&lts, VIEW), unread("returns"));
     }
 }

@@ -32,6 +32,17 @@ pub fn to_lines(journal: &[u8]) -> String {
     lines.into_iter().map(|line| line + "\n").collect()
 }
 
+/// How far the bytes are an opening and whole records, from a place on up to which they are.
+pub fn whole_until(journal: &[u8], mut place: usize) -> usize {
+    while place < journal.len() {
+        match line_at(journal, place) {
+            Ok((_, length)) => place += length,
+            Err(_) => break,
+        }
+    }
+    place
+}
+
 /// A comment where no opening is read, whatever the bytes are.
 fn length_comment(length: usize) -> Option<String> {
     match length {

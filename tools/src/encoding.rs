@@ -1,5 +1,6 @@
 //! Lines to bytes.
 
+use crate::decoding::whole_until;
 use crate::fields::Field;
 use crate::messages::{shown, Fault, LineError, Message};
 use crate::vocabulary::{pattern, Book, Kind, BYTES, DIVISIONS, QUARTERS, STEAM_OPENING};
@@ -79,6 +80,10 @@ struct Draft {
     has_first_line: bool,
     /// Where the opening is wrong, the books that the lines after it may still be of.
     supposed: Option<&'static [Book]>,
+    /// How far the bytes were whole records at the last raw ones.
+    whole: usize,
+    /// Whether raw bytes above are no whole records, so that the run ends there or reads other records than the lines say.
+    is_broken: bool,
 }
 
 impl Draft {
@@ -91,7 +96,16 @@ impl Draft {
         self.has_first_line = true;
         let taken = self.taken(word, rest, is_first)?;
         self.bytes.extend(taken.bytes);
-        Ok(taken.warnings)
+        if word == BYTES {
+            self.whole = whole_until(&self.bytes, self.whole);
+            self.is_broken = self.whole < self.bytes.len();
+        }
+        let warnings = if self.is_broken {
+            Vec::new()
+        } else {
+            taken.warnings
+        };
+        Ok(warnings)
     }
 
     fn taken(&mut self, word: &str, rest: &[&str], is_first: bool) -> Result<Taken, Fault> {

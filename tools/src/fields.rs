@@ -117,7 +117,7 @@ impl Field {
         };
         match level {
             Some(level) => Some(level as i64),
-            // A plus is no part of a whole number here, so that a number has one way to be written.
+            // A plus is no part of a whole number here.
             None if word.starts_with('+') => None,
             None => word.parse().ok(),
         }

@@ -46,13 +46,17 @@ fn main() -> ExitCode {
             print(format!("{USAGE}\n{}", language()).as_bytes())
         }
         ["--version"] => print(VERSION.as_bytes()),
+        // No option but these is known, and a name that begins so is taken behind a folder, as ./-name.
+        [_, word] if word.starts_with('-') => wrong_call(),
         ["to-bytes"] | ["to-bytes", _] => turn(file, journal_of),
         ["to-lines"] | ["to-lines", _] => turn(file, lines_of),
-        _ => {
-            tell(USAGE);
-            ExitCode::from(WRONG_CALL)
-        }
+        _ => wrong_call(),
     }
+}
+
+fn wrong_call() -> ExitCode {
+    tell(USAGE);
+    ExitCode::from(WRONG_CALL)
 }
 
 fn turn(file: Option<&OsString>, turned: fn(&str, Vec<u8>) -> Turned) -> ExitCode {

@@ -170,10 +170,26 @@ fn a_wrong_call_gets_the_usage() {
         &[][..],
         &["to-text"],
         &["to-bytes", "a", "b"],
+        &["to-bytes", "--helpp"],
+        &["to-lines", "-"],
         &["to-bytes", "a", "--help"],
         &["--version", "a"],
         &["--help", "a"],
     ] {
         assert_printed(&run(arguments, b""), 2, b"", USAGE);
     }
+}
+
+#[test]
+fn what_cannot_be_read_or_written_is_told_with_its_reason() {
+    let folder = env!("CARGO_TARGET_TMPDIR");
+    let output = run(&["to-lines", folder], b"");
+    let told = format!("{folder}: Is a directory (os error 21)\n");
+    assert_printed(&output, 1, b"", &told);
+    let full = fs::File::create("/dev/full").unwrap();
+    let mut program = Command::new(env!("CARGO_BIN_EXE_lines"));
+    program.arg("--help").stdout(full).stderr(Stdio::piped());
+    let output = program.spawn().unwrap().wait_with_output().unwrap();
+    let told = "standard output: No space left on device (os error 28)\n";
+    assert_printed(&output, 1, b"", told);
 }

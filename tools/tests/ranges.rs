@@ -217,6 +217,17 @@ fn bytes_are_held_to_no_range() {
     assert_eq!(told("bytes 01\nbill 2 5\n").len(), 1);
 }
 
+#[test]
+fn nothing_behind_bytes_that_are_no_record_is_warned_of() {
+    // The bill is read as the first record's fields, and behind an unknown kind nothing is read.
+    let cut = "electric L&P\nbytes 03 03\nbill 2 5\n";
+    assert_eq!(told(cut), [""; 0]);
+    assert_eq!(told("electric L&P\nbytes 09 00\nbill 2 5\n"), [""; 0]);
+    let mended = cut.replace("bill", "bytes 0000000000000002 0000000000000005\nbill");
+    assert_eq!(told(&mended).len(), 1);
+    assert_eq!(told("electric L&P\nbytes 05 00\nbill 2 5\n").len(), 1);
+}
+
 /// The lines of a text that are told of, errors below zero.
 fn places(text: &str) -> Vec<isize> {
     let reading = read_lines(text);
