@@ -43,6 +43,24 @@ pub fn files_below(folder: &str, ending: &str) -> Vec<String> {
     files
 }
 
+/// The files of code of every crate, each with the crate's name; what its checks leave beside src/ is passed over.
+pub fn sources() -> Vec<(String, String)> {
+    let entries = fs::read_dir(repository().join("crates"));
+    let entries = entries.unwrap_or_else(|error| panic!("crates: {error}"));
+    let folders = entries
+        .filter_map(Result::ok)
+        .filter(|entry| entry.path().join("src").is_dir());
+    let mut names: Vec<String> = folders
+        .map(|entry| entry.file_name().to_string_lossy().into_owned())
+        .collect();
+    names.sort();
+    let files = names.into_iter().flat_map(|name| {
+        let files = files_below(&format!("crates/{name}/src"), ".rt");
+        files.into_iter().map(move |path| (name.clone(), path))
+    });
+    files.collect()
+}
+
 /// A path as it is seen from a folder, both from the top, without `.` and `..`; none where it leaves the repository.
 pub fn resolved(folder: &str, path: &str) -> Option<String> {
     let mut parts: Vec<&str> = Vec::new();

@@ -1,8 +1,7 @@
 //! What the proved crates declare: structs and enums of src/, definitions of specs/.
 
-use crate::{repository, text};
+use crate::{sources, text};
 use std::collections::BTreeMap;
-use std::fs;
 
 /// A struct's fields, each with its type.
 pub type Fields = BTreeMap<String, String>;
@@ -10,19 +9,10 @@ pub type Fields = BTreeMap<String, String>;
 /// The structs by crate and name.
 pub type Structs = BTreeMap<(String, String), Fields>;
 
-/// Each file of every crate's src/, with the crate's name.
-fn sources() -> Vec<(String, String)> {
-    let mut sources = Vec::new();
-    for folder in fs::read_dir(repository().join("crates")).expect("crates") {
-        let folder = folder.expect("a crate").path();
-        let name = folder.file_name().expect("a name").to_string_lossy();
-        let files = fs::read_dir(folder.join("src")).expect("a crate has sources");
-        for file in files {
-            let source = fs::read_to_string(file.expect("a source").path()).expect("a text");
-            sources.push((name.clone().into_owned(), source));
-        }
-    }
-    sources
+/// The text of each file of code, with its crate's name.
+fn texts() -> impl Iterator<Item = (String, String)> {
+    let sources = sources().into_iter();
+    sources.map(|(name, path)| (name, text(&path)))
 }
 
 /// The type of an array's element; of any other type itself.
@@ -52,7 +42,7 @@ fn fields(declaration: &str) -> (String, Fields) {
 /// All public structs.
 pub fn structs() -> Structs {
     let mut structs = Structs::new();
-    for (crate_name, source) in sources() {
+    for (crate_name, source) in texts() {
         for declaration in source.split("pub struct ").skip(1) {
             let (name, fields) = fields(declaration);
             structs.insert((crate_name.clone(), name), fields);
@@ -77,9 +67,7 @@ fn cases(source: &str, name: &str) -> Option<Vec<String>> {
 
 /// The cases of the enum of this name, which one crate declares.
 pub fn enum_cases(name: &str) -> Vec<String> {
-    let found = sources()
-        .into_iter()
-        .filter_map(|(_, source)| cases(&source, name));
+    let found = texts().filter_map(|(_, source)| cases(&source, name));
     let found: Vec<Vec<String>> = found.collect();
     assert_eq!(found.len(), 1, "enums `{name}`");
     found.into_iter().flatten().collect()

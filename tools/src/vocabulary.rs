@@ -105,7 +105,7 @@ const ELECTRIC_KINDS: [Kind; 6] = [
     kind(
         1,
         "cost",
-        "what the open period cost",
+        "adds to the open period's cost",
         &[
             cost("F", "fuel"),
             cost("P", "purchased energy"),
@@ -115,7 +115,7 @@ const ELECTRIC_KINDS: [Kind; 6] = [
     kind(
         2,
         "sales",
-        "what was sold in the open period",
+        "adds to the open period's sales",
         &[
             sold("SECONDARY", "sold at secondary level"),
             sold("PRIMARY", "sold at primary level"),
@@ -170,13 +170,13 @@ const STEAM_KINDS: [Kind; 7] = [
     kind(
         1,
         "cost",
-        "what the open period cost",
+        "adds to the open period's cost",
         &[cost("CENTS", "cost")],
     ),
     kind(
         2,
         "sales",
-        "what was sold in the open period",
+        "adds to the open period's sales",
         &[field("MMBTU", "sold", Mmbtu, up_to(100_000_000))],
     ),
     kind(

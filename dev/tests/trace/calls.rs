@@ -1,9 +1,9 @@
 //! Each public call and each wrong program is on some page, and each public call has a contract.
 
 use crate::assert_none;
-use crate::pages::pages;
+use crate::pages::{pages, Role};
 use crate::source::{items, Item, Sort};
-use neapscroll_dev::{files_below, text};
+use neapscroll_dev::{files_below, sources, text};
 use std::collections::BTreeSet;
 
 /// A function that other crates may call, or that a host links.
@@ -12,8 +12,10 @@ struct Call {
     contract: bool,
 }
 
-fn names() -> BTreeSet<String> {
+/// The names that lists have in lines of that role.
+fn names(role: Role) -> BTreeSet<String> {
     let names = pages().into_iter().flat_map(|page| page.names);
+    let names = names.filter(|named| named.role == Some(role));
     names.map(|named| named.name).collect()
 }
 
@@ -26,7 +28,7 @@ fn placed<'a>(path: &'a str, folder: &str, ending: &str) -> Option<(&'a str, &'a
 
 fn calls() -> Vec<Call> {
     let mut calls = Vec::new();
-    for path in files_below("crates", ".rt") {
+    for (_, path) in sources() {
         let Some((of, file)) = placed(&path, "src", ".rt") else {
             continue;
         };
@@ -49,7 +51,7 @@ fn is_call(item: &Item) -> bool {
 
 #[test]
 fn every_public_call_is_named() {
-    let names = names();
+    let names = names(Role::Function);
     let calls = calls();
     let unnamed = calls.iter().filter(|call| !names.contains(&call.name));
     let flaws: Vec<String> = unnamed
@@ -61,6 +63,31 @@ fn every_public_call_is_named() {
         "only {} public calls were found",
         calls.len()
     );
+}
+
+/// The function that a line declares for other crates, wherever the line stands.
+fn declared(line: &str) -> Option<&str> {
+    let (before, rest) = line.trim_start().split_once("fn ")?;
+    let words = before.split_whitespace().collect::<Vec<&str>>();
+    let is_public = words.first() == Some(&"pub") && !before.contains(['"', '/', '(']);
+    let is_exported = words == ["pub", "extern", "\"C\""];
+    let end = rest.find(|c: char| !c.is_alphanumeric() && c != '_')?;
+    (is_public || is_exported).then_some(&rest[..end])
+}
+
+#[test]
+fn no_public_call_is_overlooked() {
+    let mut flaws = Vec::new();
+    for (_, path) in sources() {
+        let source = text(&path);
+        let items = items(&source);
+        for name in source.lines().filter_map(declared) {
+            if !items.iter().any(|item| is_call(item) && item.name == name) {
+                flaws.push(format!("{path}: `{name}`: not read as a public call"));
+            }
+        }
+    }
+    assert_none(&flaws);
 }
 
 #[test]
@@ -75,7 +102,7 @@ fn every_public_call_has_a_contract() {
 
 #[test]
 fn every_wrong_program_is_named() {
-    let names = names();
+    let names = names(Role::WrongProgram);
     let edits = files_below("crates", ".edit");
     let mut flaws = Vec::new();
     for path in &edits {

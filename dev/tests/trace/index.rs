@@ -2,21 +2,21 @@
 
 use crate::assert_none;
 use crate::pages::{Page, FOLDER};
-use neapscroll_dev::markdown::{lines, links};
+use neapscroll_dev::markdown::{heading, lines, links};
 use neapscroll_dev::{files_below, text};
 
-/// The paper's sections, in its order.
-const SECTIONS: [&str; 10] = [
-    "Amounts and rounding",
-    "Electric book",
-    "Steam book",
-    "The tally",
-    "Posting records",
-    "Refusals in order of checking",
-    "Text and the journal program",
-    "What the contracts say",
-    "Where each language form goes",
-    "Figures to check by",
+/// The paper's sections, in its order, each with the sum of its words. The paper does not change: what a request changes is noted below its words.
+const SECTIONS: [(&str, u64); 10] = [
+    ("Amounts and rounding", 0x5b89_6be4_382c_b1e3),
+    ("Electric book", 0x704d_2a8b_9459_bea0),
+    ("Steam book", 0x5fa4_57a4_ca00_1485),
+    ("The tally", 0x1326_f3a5_6c8e_33dd),
+    ("Posting records", 0x9158_307f_bb0f_d464),
+    ("Refusals in order of checking", 0x8cc3_156a_99aa_e1ed),
+    ("Text and the journal program", 0xcd79_a547_bcf5_e0a1),
+    ("What the contracts say", 0x8976_18f9_8357_3c01),
+    ("Where each language form goes", 0x2987_3a34_aa8b_084b),
+    ("Figures to check by", 0xd758_7d54_2133_b362),
 ];
 
 /// What has no section.
@@ -38,7 +38,8 @@ fn listed() -> Vec<(String, String)> {
 #[test]
 fn every_section_of_the_paper_has_its_page() {
     let titles: Vec<String> = listed().into_iter().map(|(title, _)| title).collect();
-    let sections: Vec<&str> = SECTIONS.into_iter().chain([BESIDE]).collect();
+    let sections = SECTIONS.into_iter().map(|(title, _)| title);
+    let sections: Vec<&str> = sections.chain([BESIDE]).collect();
     assert_eq!(titles, sections);
 }
 
@@ -56,6 +57,47 @@ fn every_page_is_listed_by_its_title() {
         let file = &path[FOLDER.len() + 1..];
         if file != "README.md" && !listed.iter().any(|(_, listed)| listed == file) {
             flaws.push(format!("{path}: the README does not list it"));
+        }
+    }
+    assert_none(&flaws);
+}
+
+/// A page's headings of the second and third level, and what stands in fences: the section's text.
+fn words(page: &str) -> Vec<&str> {
+    let mut fenced = false;
+    let words = page.lines().filter_map(|line| {
+        if line.starts_with("```") {
+            fenced ^= true;
+            return None;
+        }
+        let heading = heading(line).filter(|(level, _)| (2..=3).contains(level));
+        match fenced {
+            true => Some(line),
+            false => heading.map(|(_, words)| words),
+        }
+    });
+    words.collect()
+}
+
+/// The sum of FNV-1a, of 64 bits.
+fn sum(words: &[&str]) -> u64 {
+    let bytes = words.iter().flat_map(|line| line.bytes().chain([b'\n']));
+    bytes.fold(0xcbf2_9ce4_8422_2325, |sum, byte| {
+        (sum ^ u64::from(byte)).wrapping_mul(0x0100_0000_01b3)
+    })
+}
+
+#[test]
+fn the_papers_words_are_as_they_were() {
+    let mut flaws = Vec::new();
+    for (title, file) in listed() {
+        let path = format!("{FOLDER}/{file}");
+        let sum = sum(&words(&text(&path)));
+        let section = SECTIONS.iter().find(|(section, _)| *section == title);
+        if let Some((_, kept)) = section.filter(|(_, kept)| *kept != sum) {
+            flaws.push(format!(
+                "{path}: the sum of the paper's words is {sum:#x}, not {kept:#x}"
+            ));
         }
     }
     assert_none(&flaws);

@@ -47,11 +47,15 @@ impl Warned {
             return;
         }
         assert!(!warned.contains(&opening), "{origin}: {line}");
-        for (answer, (number, line)) in printed.lines().zip(numbered) {
+        for answer in printed.lines() {
+            let (number, line) = numbered.next().expect("a line for each answer");
             let refused = is_out_of_range(answer);
             assert_eq!(refused, warned.contains(&number), "{origin}: {line}");
             self.records += usize::from(refused);
         }
+        // What has no answer stands behind bytes that are no record.
+        let mut rest = numbered.map(|(_, line)| line);
+        assert!(rest.all(|line| line.starts_with("bytes")), "{origin}");
     }
 }
 
