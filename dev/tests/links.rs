@@ -38,14 +38,27 @@ fn flaw(document: &str, target: &str) -> Option<String> {
         .then(|| format!("{file} has no such heading"))
 }
 
+/// A line without what stands in code marks.
+fn without_code(line: &str) -> String {
+    line.split('`').step_by(2).collect()
+}
+
 #[test]
 fn every_link_goes_to_a_file_and_its_heading() {
     let mut flaws = Vec::new();
     let mut count = 0;
     for document in documents() {
-        for (number, line) in lines(&text(&document)) {
-            for link in links(line).0 {
-                count += 1;
+        let text = text(&document);
+        if text.matches("\n```").count() % 2 == 1 {
+            flaws.push(format!("{document}: a fence is not closed"));
+        }
+        for (number, line) in lines(&text) {
+            let (links, left) = links(line);
+            if without_code(&left).contains("](") {
+                flaws.push(format!("{document}:{number}: a link that cannot be read"));
+            }
+            count += links.len();
+            for link in links {
                 let told = |flaw| format!("{document}:{number}: {}: {flaw}", link.target);
                 flaws.extend(flaw(&document, link.target).map(told));
             }

@@ -138,7 +138,9 @@ fn each_number_has_a_section_that_says_what_to_do() {
         let anchor = format!("#{}", anchor(heading));
         assert_eq!(link.target, anchor, "the link of {number}");
         for part in ["- **Means:** ", "- **Usual cause:** ", "- **What to do:** "] {
-            assert_eq!(section.matches(part).count(), 1, "{heading}: {part}");
+            let told: Vec<&str> = section.split(part).skip(1).collect();
+            assert_eq!(told.len(), 1, "{heading}: {part}");
+            assert!(!told[0].starts_with('\n'), "{heading}: {part}");
         }
     }
 }

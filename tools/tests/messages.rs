@@ -209,6 +209,8 @@ fn a_wrong_opening_does_not_hide_or_make_errors_below_it() {
         [1, 4, 5]
     );
     assert_eq!(numbers("bytes 0\ncost 1\ncost 1 2 3\ncost 1 2\n"), [1, 4]);
+    // Wrong bytes behind a right opening leave the book as it is.
+    assert_eq!(numbers("electric L&P\nbytes 0\ncost 1\n"), [2, 3]);
     let told = messages("gas\ncost 1 2\nbills 1\n");
     let cost = "line 2: \"cost 1 2\": 2 words after cost; expected cost F P E, or cost CENTS";
     assert_eq!(told[1], cost);
