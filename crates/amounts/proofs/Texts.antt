@@ -10,6 +10,7 @@ use Prim.Native.Nat.{ℕ, zero, suc, ◌+◌, ◌-◌, ◌*◌, ◌/◌, ◌%◌
 use native.Mathlib.Omega.{arith}
 use native.Mathlib.Nat.{div-lt_iff_lt-mul, pow-le-pow_right}
 use Rattle.amounts.proofs.Widths.{width_most}
+use Rattle.std.specs.Prelude.{Ok, Err}
 use lib.Dec.{lit<}
 use lib.IntN.{ℤ, pos, nat_abs}
 use lib.Signed.{lt_z}
@@ -28,7 +29,7 @@ use Rattle.refusals.specs.Writer.{too_short}
 use Rattle.refusals.specs.declared.Refusal.{Refusal}
 use Rattle.refusals.specs.declared.Refusal.TheVariants.{BufferTooShort}
 use Rattle.refusals.proofs.WriterLaws.{writer_refuses, writer_accepts}
-use Rattle.amounts.specs.Text.{characters, width_of, decimal, sign_of, text_of, text_rows, text_left}
+use Rattle.amounts.specs.Text.{characters, width_of, decimal, sign_of, text_of, text_rows, text_written, text_left}
 
 pub length_characters : (count n : ℕ) → length (characters (digits 10 count n)) ≡ count
 length_characters count n = length-map (digits 10 count n) (λ (d : ℕ). 48 + d) ∙ length_digits 10 count n
@@ -151,13 +152,24 @@ module _ (places : ℕ) (z : ℤ) (size whole start point : ℕ) (m : Measured p
 
 -- ---- the buffer afterwards, and the answer
 
-pub kept : (text buffer : List ℕ) → length buffer < length text → buffer ≡ text_left text buffer
-unfolding text_left too_short
-kept text buffer h = (writer_refuses (text_rows text buffer) text buffer BufferTooShort (at_row BufferTooShort [] (lt-ltb (length buffer) (length text) h))).1
+module _ (text buffer : List ℕ) where
+  -- what the writer of a text gives where the buffer is too short
+  pub text_refused : length buffer < length text → (Err BufferTooShort ≡ text_written text buffer) × (buffer ≡ text_left text buffer)
+  unfolding text_written text_left too_short
+  text_refused h = writer_refuses (text_rows text buffer) text buffer BufferTooShort (at_row BufferTooShort [] (lt-ltb (length buffer) (length text) h))
 
-pub stored : (text buffer after : List ℕ) → length text ≤ length buffer → after ≡ sets buffer 0 text → after ≡ text_left text buffer
-unfolding text_left too_short
-stored text buffer after h s = (writer_accepts (text_rows text buffer) text buffer after (length text) (accepted (text_rows text buffer) (le-ltb (length buffer) (length text) h, tt)) h refl s).1
+  -- and where it is stored
+  pub text_accepted : {after : List ℕ} {n : ℕ} → n ≡ length text → n ≤ length buffer → after ≡ sets buffer 0 text → (Ok n ≡ text_written text buffer) × (after ≡ text_left text buffer)
+  unfolding text_written text_left too_short
+  text_accepted {after} {n} e h s =
+      let fits : length text ≤ length buffer = omega arith in
+      writer_accepts (text_rows text buffer) text buffer after n (accepted (text_rows text buffer) (le-ltb (length buffer) (length text) fits, tt)) fits e s
+
+  pub kept : length buffer < length text → buffer ≡ text_left text buffer
+  kept h = (text_refused h).1
+
+  pub stored : (after : List ℕ) → length text ≤ length buffer → after ≡ sets buffer 0 text → after ≡ text_left text buffer
+  stored after h s = (text_accepted refl h s).1
 
 -- a buffer that holds the text has it at its front
 pub left_front : (text buffer : List ℕ) (n : ℕ) → n ≡ length text → n ≤ length buffer → take n (text_left text buffer) ≡ text

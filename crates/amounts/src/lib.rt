@@ -32,8 +32,8 @@ pub trait Stored: Copy {
     }
 }
 
-// A stored value that has a text.
-pub trait Amount: Stored {
+// A number that has a text: a whole part and so many digits after the point.
+pub trait Amount: Copy {
     ghost number: { Self → ℤ };
 
     ghost text: { Self → List ℕ };

@@ -47,13 +47,12 @@ pub(crate) fn written(length: usize, room: usize) -> Result<usize, Refusal>
 }
 
 // Stores a whole number as text where the buffer has room for it, and answers the text's length in either case.
-pub fn put_decimal(n: u32, buffer: &mut [u8]) -> usize
-    ensures { (result ≡ length (decimal n)) × (result ≤ 10) × (buffer.new ≡ text_left (decimal n) buffer.old) }
+pub fn put_whole(n: u64, buffer: &mut [u8]) -> usize
+    ensures { (result ≡ length (decimal n)) × (result ≤ 20) × (buffer.new ≡ text_left (decimal n) buffer.old) }
 {
-    let whole = u64::from(n);
-    let count = width(whole);
+    let count = width(n);
     if count <= buffer.len() {
-        put_digits(&mut buffer[..count], whole);
+        put_digits(&mut buffer[..count], n);
     }
     count
 }

@@ -31,7 +31,7 @@ pub fn output_buffer() -> [u8; 2687058]
 
 // Reads until the bytes are full, the input ends or a read fails, and answers how many were read in any case. It reads no more after an
 // end: a terminal would wait for another one. It loops over `read`, since `read_exact` does not tell how many came before a failure.
-fn read_input<R: Read>(file: &mut R, bytes: &mut [u8]) -> (usize, io::Result<()>)
+pub fn read_input<R: Read>(file: &mut R, bytes: &mut [u8]) -> (usize, io::Result<()>)
     ensures fits { result.0 ≤ length bytes.new }
     ensures bytes { Consumes (R.remaining file.old) (R.remaining file.new) (take result.0 bytes.new) }
     ensures ends { IsOk result.1 → result.0 < length bytes.new → IsAtEnd (R.remaining file.new) }

@@ -11,9 +11,15 @@ use settling::Settling;
 
 mod settling;
 
-// Both levels' shares, and the remainder that is left.
+// The secondary level's part of the customers' share, in hundred-thousandths.
+#[derive(Clone, Copy, Debug, PartialEq, Eq)]
+pub struct Weight(pub i64);
+
+// The customers' share, the weight by which it is parted, both levels' shares, and the remainder that is left.
 #[derive(Clone, Copy, Debug, PartialEq, Eq)]
 pub struct Shares {
+    pub share: Cents,
+    pub weight: Weight,
     pub secondary: Cents,
     pub primary: Cents,
     pub remainder: Remainder,
@@ -48,6 +54,8 @@ pub fn shares_of(rates: Rates, period: Period) -> Shares
         return Settling { rates, period }.shares();
     }
     Shares {
+        share: Cents(0),
+        weight: Weight(0),
         secondary: Cents(0),
         primary: Cents(0),
         remainder: period.remainder,

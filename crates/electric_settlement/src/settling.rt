@@ -5,7 +5,7 @@ ghost use Rattle.amounts.specs.Amounts.{cents};
 ghost use Rattle.electric_rules.specs.Ranges.{PeriodWithin};
 ghost use Rattle.electric_rules.specs.Sizes.{RatesWithin};
 
-use crate::Shares;
+use crate::{Shares, Weight};
 use amounts::Cents;
 use electric_rules::{Period, Rates, Remainder};
 
@@ -14,10 +14,6 @@ const TO_A_CENT: i64 = 1_000;
 
 // Parts of a cent in which the remainder counts; and the weight of all sales.
 const PARTS: i64 = 100_000;
-
-// The secondary level's part of the customers' share, in hundred-thousandths.
-#[derive(Clone, Copy, Debug, PartialEq, Eq)]
-struct Weight(i64);
 
 #[derive(Clone, Copy)]
 pub(crate) struct Settling {
@@ -57,8 +53,11 @@ impl Settling {
     {
         let shareable = self.shareable();
         let share = whole_cents(shareable);
-        let secondary = whole_cents(Remainder(share.0 * self.weight().0));
+        let weight = self.weight();
+        let secondary = whole_cents(Remainder(share.0 * weight.0));
         Shares {
+            share,
+            weight,
             secondary,
             primary: Cents(share.0 - secondary.0),
             remainder: Remainder(shareable.0 - PARTS * share.0),

@@ -7,30 +7,22 @@ use native.Mathlib.Omega.{arith}
 use lib.ListN.{length, take, drop, length-append, length-drop, drop_of_length-le}
 use lib.Seq.{sets, sets-eq, length-sets, take_all, drop-drop}
 use Rattle.refusals.specs.Stores.{sets_append, sets_front}
-use Rattle.amounts.specs.Text.{text_rows, text_written, text_left}
+use Rattle.amounts.specs.Text.{text_written, text_left}
+use Rattle.amounts.proofs.Texts.{text_refused, text_accepted, stored}
 use Rattle.std.specs.Prelude.{Ok, Err}
-use Rattle.refusals.specs.Writer.{too_short}
 use Rattle.refusals.specs.declared.Refusal.TheVariants.{BufferTooShort}
-use Rattle.refusals.proofs.TableLaws.{at_row, accepted}
-use Rattle.refusals.proofs.WriterLaws.{writer_refuses, writer_accepts}
-use borrow.Author.Tests.{lt-ltb, le-ltb}
 use Rattle.journal.specs.Steps.{Puts, Prints}
 use Rattle.journal.specs.declared.page.Page.{Page}
-
--- a text that fits is left in the buffer
-stored_left : (text buffer after : List ℕ) → length text ≤ length buffer → after ≡ sets buffer 0 text → after ≡ text_left text buffer
-unfolding text_left too_short
-stored_left text buffer after h s = (writer_accepts (text_rows text buffer) text buffer after (length text) (accepted (text_rows text buffer) (le-ltb (length buffer) (length text) h, tt)) h refl s).1
 
 -- a text that was put into the part from `start` on, which is from `used` on where that is within the buffer
 module _ (l text part : List ℕ) (used start n : ℕ) where
   pub part_puts :
       (used ≤ length l → start ≡ used) → n ≡ length text → part ≡ text_left text (take (length l - start) (drop start l)) →
       Puts text used l (used + n) (take start l ++ (part ++ drop (length l - start) (drop start l)))
-  part_puts at counted left = record { counted = ap (λ (k : ℕ). used + k) counted; stored = stored }
+  part_puts at counted left = record { counted = ap (λ (k : ℕ). used + k) counted; stored = fits }
     where
-      stored : used + length text ≤ length l → take start l ++ (part ++ drop (length l - start) (drop start l)) ≡ sets l used text
-      stored h =
+      fits : used + length text ≤ length l → take start l ++ (part ++ drop (length l - start) (drop start l)) ≡ sets l used text
+      fits h =
           let e : start ≡ used = at (omega arith) in
           let rest = drop used l in
           let long = length-drop used l in
@@ -38,7 +30,7 @@ module _ (l text part : List ℕ) (used start n : ℕ) where
           let fits : length text ≤ length rest = omega arith in
           let put : part ≡ text ++ drop (length text) rest =
           left ∙ (λ i. text_left text (take (length l - e i) (drop (e i) l))) ∙ ap (text_left text) whole
-          ∙ sym (stored_left text rest (sets rest 0 text) fits refl) ∙ sets_front rest text fits in
+          ∙ sym (stored text rest (sets rest 0 text) fits refl) ∙ sets_front rest text fits in
           let none : drop (length l - used) rest ≡ _ = drop_of_length-le rest {i = length l - used} (omega arith) in
           (λ i. take (e i) l ++ (put i ++ drop (length l - e i) (drop (e i) l)))
           ∙ ap (λ (z : List ℕ). take used l ++ (text ++ drop (length text) rest ++ z)) none
@@ -86,12 +78,9 @@ prints_as {old = old} {new} p e h =
 -- ---- the answer of the writer of a text
 
 pub short : (text buffer : List ℕ) (n : ℕ) → n ≡ length text → length buffer < n → (Err BufferTooShort ≡ text_written text buffer) × (buffer ≡ text_left text buffer)
-unfolding text_written text_left too_short
-short text buffer n e h = writer_refuses (text_rows text buffer) text buffer BufferTooShort (at_row BufferTooShort [] (lt-ltb (length buffer) (length text) (omega arith)))
+short text buffer n e h = text_refused text buffer (omega arith)
 
 pub whole : (text buffer after : List ℕ) (n : ℕ) → Puts text 0 buffer n after → n ≤ length buffer → (Ok n ≡ text_written text buffer) × (after ≡ text_left text buffer)
-unfolding text_written text_left too_short
 whole text buffer after n p h =
     let e : n ≡ length text = omega (arith, p.counted) in
-    let fits : length text ≤ length buffer = omega arith in
-    writer_accepts (text_rows text buffer) text buffer after n (accepted (text_rows text buffer) (le-ltb (length buffer) (length text) fits, tt)) fits e (p.stored (omega arith))
+    text_accepted text buffer e h (p.stored (omega arith))

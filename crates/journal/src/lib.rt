@@ -10,7 +10,7 @@ use page::Page;
 use refusals::Refusal;
 
 mod lines;
-mod opening;
+pub mod opening;
 mod page;
 mod pieces;
 mod run;

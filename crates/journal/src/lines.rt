@@ -1,6 +1,6 @@
 // The lines of the journal, piece by piece.
-ghost use Rattle.std.specs.Prelude.{◌++◌, ◌+◌, ◌*◌, ◌^◌, ◌≤◌, ◌<◌, length};
-ghost use Rattle.journal.specs.Lines.{ascii, answer_text, record_line, opening_refused};
+ghost use Rattle.std.specs.Prelude.{codes, ◌++◌, ◌+◌, ◌*◌, ◌^◌, ◌≤◌, ◌<◌, length};
+ghost use Rattle.journal.specs.Lines.{answer_text, record_line, opening_refused};
 ghost use Rattle.journal.specs.Steps.{Prints};
 
 use crate::page::Page;
@@ -24,7 +24,7 @@ impl Page<'_> {
     #[inline(always)]
     fn put_both<T: Piece>(&mut self, word: &[u8], secondary: T, primary: T)
         requires { self.old.used + length word.now + 2 * T.most + 1 < 2 ^ 64 }
-        ensures { Prints (word.now ++ T.text secondary ++ ascii " " ++ T.text primary) (length word.now + 2 * T.most + 1) self.old self.new }
+        ensures { Prints (word.now ++ T.text secondary ++ codes " " ++ T.text primary) (length word.now + 2 * T.most + 1) self.old self.new }
     {
         self.put_one(word, secondary);
         self.put_one(b" ", primary);

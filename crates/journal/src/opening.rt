@@ -10,7 +10,7 @@ use steam_rules::{Mmbtu, SteamBook};
 
 // The fresh book that is opened.
 #[derive(Clone, Copy)]
-pub(crate) enum FreshBook {
+pub enum FreshBook {
     Electric(ElectricBook),
     Steam(SteamBook),
 }
@@ -32,7 +32,7 @@ fn quarters(input: &[u8]) -> Result<[Mmbtu; 4], Refusal>
 }
 
 #[tactic(auto, using(crate::proofs::Openings::openings))]
-pub(crate) fn opened(input: &[u8]) -> Result<FreshBook, Refusal>
+pub fn opened(input: &[u8]) -> Result<FreshBook, Refusal>
     ensures { result ≡ opened_by input.now }
 {
     if crate::MOST_BYTES < input.len() {

@@ -46,6 +46,6 @@ impl Piece for u32 {
     ghost most = { 10 };
 
     fn put(self, buffer: &mut [u8]) -> usize {
-        amounts::text::put_decimal(self, buffer)
+        amounts::text::put_whole(u64::from(self), buffer)
     }
 }

@@ -15,7 +15,7 @@ use Rattle.electric_rules.specs.Settlement.{shareable_of, share_of, remainder_af
 use Rattle.electric_rules.specs.Sizes.{shareable_within, share_within, weight_within, secondary_within}
 use Rattle.electric_settlement.specs.Shares.{as_weight}
 use Rattle.electric_settlement.specs.declared.settling.Settling.{Settling}
-use Rattle.electric_settlement.specs.declared.settling.Weight.{Weight}
+use Rattle.electric_settlement.specs.declared.Weight.{Weight}
 use Rattle.electric_settlement.proofs.settling.Settling.shares.Goals as goal
 
 -- what the code has worked out, and how large it is
@@ -50,14 +50,14 @@ pub overflow_mul-share : goal.overflow_mul-share
 overflow_mul-share c =
     let s = c.args.self in
     let share = share_small s c.shareable-shareable.ensures c.whole_cents-share.ensures in
-    let weight = weight_small s c.shareable-shareable.ensures c.whole_cents-share.ensures c.weight.ensures in
+    let weight = weight_small s c.shareable-shareable.ensures c.whole_cents-share.ensures c.weight-weight.ensures in
     fits64 (search (bounds, share, weight) depth 30) tt
 
 pub overflow_sub-result : goal.overflow_sub-result
 overflow_sub-result c =
     let s = c.args.self in
     let share = share_small s c.shareable-shareable.ensures c.whole_cents-share.ensures in
-    let secondary_is = secondary_is s c.shareable-shareable.ensures c.whole_cents-share.ensures c.weight.ensures c.whole_cents-secondary.ensures in
+    let secondary_is = secondary_is s c.shareable-shareable.ensures c.whole_cents-share.ensures c.weight-weight.ensures c.whole_cents-secondary.ensures in
     let secondary = between_same (λ i. (secondary_is i).0) (secondary_within s.rates s.period s.rates_within s.period_within) in
     fits64 (search (bounds, share, secondary) depth 30) tt
 
@@ -78,7 +78,7 @@ returns c =
     let s = c.args.self in
     let e = c.shareable-shareable.ensures in
     let share_is = share_is s e c.whole_cents-share.ensures in
-    let secondary_is = secondary_is s e c.whole_cents-share.ensures c.weight.ensures c.whole_cents-secondary.ensures in
+    let secondary_is = secondary_is s e c.whole_cents-share.ensures c.weight-weight.ensures c.whole_cents-secondary.ensures in
     let shareable = shareable_small s e in
     let share = share_small s e c.whole_cents-share.ensures in
     let secondary = between_same (λ i. (secondary_is i).0) (secondary_within s.rates s.period s.rates_within s.period_within) in
@@ -86,4 +86,4 @@ returns c =
     let left : to_z w64 (of_z w64 (to_z w64 (of_z w64 c.shareable-shareable.result.0) -ℤ to_z w64 (of_z w64 (pos 100000 *ℤ to_z w64 (of_z w64 c.whole_cents-share.result.0))))) ≡ c.shareable-shareable.result.0 -ℤ pos 100000 *ℤ c.whole_cents-share.result.0 = exact (search (exacts, shareable, share) depth 30) tt in
     let primary = rest ∙ (λ i. (share_is i).0 -ℤ (secondary_is i).0) in
     let remains = left ∙ (λ i. (e i).0 -ℤ pos 100000 *ℤ (share_is i).0) in
-    λ i. record { secondary = secondary_is i; primary = cents (primary i); remainder = remainder (remains i) }
+    λ i. record { share = share_is i; weight = c.weight-weight.ensures i; secondary = secondary_is i; primary = cents (primary i); remainder = remainder (remains i) }
