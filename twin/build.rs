@@ -1,4 +1,4 @@
-//! Builds the proved static library, which is linked to the twin, and the proved journal program, on which tests run.
+//! Builds the proved static library, which is linked to the twin, and the proved programs of journals and of sheets, on which tests run.
 
 use std::env;
 use std::fs::{self, File};
@@ -28,21 +28,29 @@ const PROGRAM: Build = Build {
     built: "crates/neapscroll/out/neapscroll",
 };
 
+const SHEETS: Build = Build {
+    command: "rt run",
+    folder: "crates/sheets",
+    built: "crates/sheets/out/sheets",
+};
+
 fn main() {
     let top = repository_top();
     let library = LIBRARY.run(&top);
     let program = PROGRAM.run(&top);
+    let sheets = SHEETS.run(&top);
     let library_folder = library.parent().expect("the archive stands in a folder");
 
     // The tests ask for these paths.
     println!("cargo::rustc-env=PROVED_LIBRARY={}", library.display());
     println!("cargo::rustc-env=PROVED_PROGRAM={}", program.display());
+    println!("cargo::rustc-env=PROVED_SHEETS={}", sheets.display());
     println!(
         "cargo::rustc-link-search=native={}",
         library_folder.display()
     );
     println!("cargo::rustc-link-lib=static=neapscroll");
-    for input in inputs(&top).iter().chain([&library, &program]) {
+    for input in inputs(&top).iter().chain([&library, &program, &sheets]) {
         println!("cargo::rerun-if-changed={}", input.display());
     }
 }

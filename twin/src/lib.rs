@@ -1,5 +1,5 @@
-//! A second, independent ledger: arithmetic, text, records, both books, the journal program, and the
-//! proved ones beside.
+//! A second, independent ledger: arithmetic, text, records, both books, the factor sheet, the programs
+//! of journals and of sheets, and the proved ones beside.
 
 #![deny(unsafe_code)]
 

@@ -1,6 +1,6 @@
 //! The proved functions of the static library, as safe functions.
 
-use crate::electric::{self, ElectricBook};
+use crate::electric::{self, ElectricBook, Sales};
 use crate::posted::{Posted, Replied};
 use crate::records::{Book, Posting, Read};
 use crate::steam::{self, SteamBook};
@@ -10,7 +10,7 @@ use std::fmt::Debug;
 pub use exported::{Cents, Points, Reading, Writing};
 
 mod exported {
-    use crate::electric::{self, ElectricBook};
+    use crate::electric::{self, ElectricBook, Sales};
     use crate::records::Posting;
     use crate::steam::{self, SteamBook};
 
@@ -68,6 +68,12 @@ mod exported {
             length: usize,
         ) -> Writing;
         pub fn neapscroll_journal_length(input: *const u8, input_length: usize) -> usize;
+        pub fn neapscroll_electric_sheet(
+            book: ElectricBook,
+            estimates: Sales,
+            page: *mut u8,
+            page_length: usize,
+        ) -> Writing;
     }
 }
 
@@ -137,6 +143,14 @@ pub fn electric_post(book: ElectricBook, posting: Posting) -> electric::Posted {
 pub fn electric_post_bare(book: ElectricBook, posting: Posting) -> electric::Posted {
     // SAFETY: the function is total on books and postings and touches no memory of its caller.
     unsafe { exported::neapscroll_electric_post(book, posting) }
+}
+
+/// The sheet of the settlement with those estimates, as proved.
+#[inline]
+pub fn electric_sheet(book: ElectricBook, estimates: Sales, page: &mut [u8]) -> Written {
+    let (start, length) = (page.as_mut_ptr(), page.len());
+    // SAFETY: the function touches no memory of its caller but the page of that length.
+    written(unsafe { exported::neapscroll_electric_sheet(book, estimates, start, length) })
 }
 
 /// The fresh steam book of the quarters, oldest first, as proved.

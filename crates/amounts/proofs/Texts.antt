@@ -95,6 +95,10 @@ text_length places z =
     omega
     (arith, length-append (sign_of z) (number ++ rest), length-append number rest, length_characters (width_of whole) whole, length_characters places (nat_abs z))
 
+-- a sign, so many digits and one before the point, the point, and those behind it
+pub text_most : (places more : ℕ) (z : ℤ) → nat_abs z / 10 ^ places < 10 ^ suc more → length (text_of places z) ≤ more + places + 3
+text_most places more z h = omega (arith, text_length places z, length_sign z, bool_byte-le (lt_z z (pos 0)), width_most more (nat_abs z / 10 ^ places) h)
+
 -- digits that fill a part are stored from where it begins
 part_stored : (l ys : List ℕ) (at end n : ℕ) → at ≤ end → end ≤ length l → ys ≡ characters (digits 10 (length (mid_of at (end - at) l)) n) → put_mid at (end - at) l ys ≡ sets l at (characters (digits 10 (end - at) n))
 part_stored l ys at end n h k e =
@@ -209,6 +213,9 @@ ascii_text places z =
 pub decimal_length : (count n : ℕ) → count ≡ width_of n → count ≡ length (decimal n)
 unfolding decimal
 decimal_length count n e = e ∙ sym (length_characters (width_of n) n)
+
+pub decimal_most : (more n : ℕ) → n < 10 ^ suc more → length (decimal n) ≤ suc more
+decimal_most more n h = omega (arith, decimal_length (width_of n) n refl, width_most more n h)
 
 pub decimal_stored : (buffer part : List ℕ) (count whole n : ℕ) → count ≤ length buffer → count ≡ width_of n → whole ≡ n → part ≡ characters (digits 10 (length (take count buffer)) whole) → part ++ drop count buffer ≡ sets buffer 0 (decimal n)
 unfolding decimal

@@ -50,3 +50,15 @@ width_most (suc more) n h = go (ltb n 10) refl (width_most more (n / 10))
     go false e most =
         let small : n < 10 ^ suc more * 10 = omega (arith, pow-suc 10 (suc more)) in
         omega (arith, more_digits n (ltb-false n 10 e), most (omega arith))
+
+-- a number below 10 to some power needs no more steps than that
+pub few_steps : (more n : ℕ) → n < 10 ^ suc more → width_in more n ≡ width_of n
+unfolding width_in
+few_steps zero n h = sym (one_digit n h)
+few_steps (suc more) n h = go (ltb n 10) refl (few_steps more (n / 10))
+  where
+    go : (t : Bool) → ltb n 10 ≡ t → (n / 10 < 10 ^ suc more → width_in more (n / 10) ≡ width_of (n / 10)) → cond t 1 (suc (width_in more (n / 10))) ≡ width_of n
+    go true e more_is = sym (one_digit n (ltb-true n 10 e))
+    go false e more_is =
+        let small : n < 10 ^ suc more * 10 = omega (arith, pow-suc 10 (suc more)) in
+        ap suc (more_is (omega arith)) ∙ sym (more_digits n (ltb-false n 10 e))

@@ -75,7 +75,7 @@ impl LevelInLimits {
 
     // What the level owes, with the factor that is to bring it in over the estimated sales; or refusal 12.
     pub(crate) fn filing_of(self, share: Cents, estimate: Kwh) -> Result<Run, Refusal>
-        requires { Within 20000000000000 share.0 }
+        requires { Within 9000000000000 share.0 }
         ensures { result ≡ stored_or_12 (run_in_limits (filed_run (owed_by share.0 self.level) estimate.0)) (filed_run (owed_by share.0 self.level) estimate.0) }
     {
         let owed = Cents(share.0 + self.level.carried.0 + self.level.interest.0);

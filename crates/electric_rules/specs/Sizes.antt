@@ -58,7 +58,7 @@ module _ (r : Rates) (p : Period) (rs : RatesWithin r) (ps : PeriodWithin p) whe
   unfolding shareable_of variance_of
   shareable_within = within_by (search bounds depth 30) tt
 
-  pub share_within : Within 5000000000000 (share_of r p)
+  pub share_within : Within 4100000000000 (share_of r p)
   unfolding share_of
   share_within = let s = shareable_within in within_by (search (bounds, rounds) depth 30) tt
 
@@ -74,10 +74,10 @@ module _ (r : Rates) (p : Period) (rs : RatesWithin r) (ps : PeriodWithin p) whe
       weight_between (p.sales.secondary.0 *ℤ r.secondary) (p.sales.primary.0 *ℤ r.primary)
       (weighable_true _ weighable_secondary).above (weighable_true _ weighable_primary).above
 
-  pub secondary_within : Within 10000000000000 (secondary_share r p)
+  pub secondary_within : Within 4200000000000 (secondary_share r p)
   unfolding secondary_share
   secondary_within = let s = share_within in let w = weight_within in within_by (search (bounds, rounds) depth 30) tt
 
-  pub primary_within : Within 20000000000000 (primary_share r p)
+  pub primary_within : Within 9000000000000 (primary_share r p)
   unfolding primary_share
   primary_within = let s = share_within in let w = secondary_within in within_by (search bounds depth 30) tt

@@ -47,9 +47,12 @@ sheet_rows r found settled estimates =
 abbrev pub settlement_of : Sales → Posting
 settlement_of estimates = record { kind = 4; first = estimates.secondary.0; second = estimates.primary.0; third = pos 0 }
 
--- the text of the sheet
+-- the sheet of that settlement, and its text
+abbrev pub rows_at : ElectricBook → Sales → List Row
+rows_at b estimates = sheet_rows (rates_of b.division) b (next_of b (settlement_of estimates)) estimates
+
 unfoldable pub sheet_of : ElectricBook → Sales → List ℕ
-sheet_of b estimates = rows_text (sheet_rows (rates_of b.division) b (next_of b (settlement_of estimates)) estimates)
+sheet_of b estimates = rows_text (rows_at b estimates)
 
 -- the settlement's own refusal, then 13: a page under 1,296 bytes
 abbrev pub sheet_table : ElectricBook → Sales → List ℕ → List refusal.Row

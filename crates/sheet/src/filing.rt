@@ -1,12 +1,13 @@
 // A settlement as its sheet states it, row by row.
-ghost use Rattle.std.specs.Prelude.{◌≡◌, map, pos, take, drop};
+ghost use Rattle.std.specs.Prelude.{◌≡◌, true, map, pos, take, drop};
 ghost use Rattle.ints.specs.Range.{Between, Within};
 ghost use Rattle.amounts.specs.Amounts.{cents};
 ghost use Rattle.electric_rules.specs.Book.{kwh};
 ghost use Rattle.electric_rules.specs.Ranges.{BookWithin};
+ghost use Rattle.electric_rules.specs.Rates.{rates_in_range};
 ghost use Rattle.electric_rules.specs.Sizes.{RatesWithin};
 ghost use Rattle.electric_rules.specs.Settlement.{weight_by};
-ghost use Rattle.electric_settlement.specs.Shares.{shares_of};
+ghost use Rattle.electric_settlement.specs.Shares.{as_weight, shares_of};
 ghost use Rattle.sheet_rows.specs.Rows.{shown};
 ghost use Rattle.sheet.specs.Figures.{base_cost, first_interim, adjusted, previous_factor, annual_factor};
 ghost use Rattle.sheet.specs.Sheet.{sheet_rows};
@@ -14,7 +15,7 @@ ghost use Rattle.sheet.specs.Sheet.{sheet_rows};
 use amounts::{Cents, Points};
 use electric_refusals::calendar;
 use electric_rules::{ElectricBook, EnteringRun, Kwh, Level, Rates, Sales};
-use electric_settlement::Shares;
+use electric_settlement::{Shares, Weight};
 use riders::months;
 use sheet_rows::Row;
 use sheet_rows::cells::{Cell, Percentage, Thousandths};
@@ -32,6 +33,7 @@ pub(crate) struct Filing {
     pub(crate) found: ElectricBook,
     pub(crate) settled: ElectricBook,
     pub(crate) estimates: Sales,
+    ghost rates_in_range: { rates_in_range rates ≡ true },
     ghost rates_within: { RatesWithin rates },
     ghost found_within: { BookWithin found },
     ghost settled_within: { BookWithin settled },
@@ -95,8 +97,8 @@ impl Filing {
     }
 
     // Rows 4 to 4.3, by the weight of the settlement.
-    fn energy_rows(self, weight: i64) -> [Row<'static>; 4]
-        requires { weight ≡ weight_by self.rates self.found.period }
+    fn energy_rows(self, weight: Weight) -> [Row<'static>; 4]
+        requires { weight ≡ as_weight (weight_by self.rates self.found.period) }
         ensures { map shown result ≡ take 4 (drop 3 (sheet_rows self.rates self.found self.settled self.estimates)) }
     {
         let sold = self.found.period.sales;
@@ -125,8 +127,8 @@ impl Filing {
             Row::levels(
                 b"4.3",
                 b"Loss factor weights",
-                Cell::Proportion(Thousandths(weight)),
-                Cell::Proportion(Thousandths(PARTS - weight)),
+                Cell::Proportion(Thousandths(weight.0)),
+                Cell::Proportion(Thousandths(PARTS - weight.0)),
             ),
         ]
     }
@@ -220,7 +222,7 @@ impl Filing {
     {
         let shares = electric_settlement::shares_of(self.rates, self.found.period);
         let [row_1, row_2, row_3] = self.cost_rows();
-        let [row_4, row_4_1, row_4_2, row_4_3] = self.energy_rows(shares.weight.0);
+        let [row_4, row_4_1, row_4_2, row_4_3] = self.energy_rows(shares.weight);
         let [row_5, row_6] = self.share_rows(shares);
         let [row_7, row_8, row_9, row_10] = self.owed_rows();
         let [row_11, row_12, row_13] = self.factor_rows();

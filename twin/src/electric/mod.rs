@@ -5,6 +5,7 @@ mod entry;
 mod reply;
 mod riders;
 mod sharing;
+pub mod sheet;
 
 pub use book::*;
 pub use reply::{Levels, Reply};

@@ -66,12 +66,7 @@ fn bill(level: &mut Level, kwh: i64) -> Outcome<Reply> {
 #[inline(always)]
 fn settle(book: &mut ElectricBook, secondary: i64, primary: i64) -> Outcome<Reply> {
     let period = &mut book.period;
-    let open = Open {
-        cost: period.cost.into(),
-        secondary: period.sales.secondary.into(),
-        primary: period.sales.primary.into(),
-        remainder: period.remainder.into(),
-    };
+    let open = Open::of(period);
     if open.secondary + open.primary == 0 {
         return Err(NOTHING_SOLD);
     }

@@ -1,14 +1,15 @@
 //! The variance of a period and its customers' share, parted between the levels.
 
+use super::book::Period;
 use crate::rounding::{round, WHOLE_WEIGHT};
 
 /// What a division's opening fixes.
-struct Rates {
+pub(super) struct Rates {
     /// Hundred-thousandths of a dollar per kWh.
-    base: i128,
+    pub base: i128,
     /// Over 100,000.
-    secondary_loss: i128,
-    primary_loss: i128,
+    pub secondary_loss: i128,
+    pub primary_loss: i128,
 }
 
 /// By number of the division: L&P, MPS.
@@ -26,7 +27,7 @@ const RATES: [Rates; 2] = [
 ];
 
 /// The customers bear so many hundredths of a variance.
-const CUSTOMER_HUNDREDTHS: i128 = 95;
+pub(super) const CUSTOMER_HUNDREDTHS: i128 = 95;
 
 /// Variances are in thousandths of a cent, and shares in hundredths of them.
 const SHARE_DIVISOR: i128 = 100_000;
@@ -40,6 +41,17 @@ pub struct Open {
     pub remainder: i128,
 }
 
+impl Open {
+    pub fn of(period: &Period) -> Self {
+        Self {
+            cost: period.cost.into(),
+            secondary: period.sales.secondary.into(),
+            primary: period.sales.primary.into(),
+            remainder: period.remainder.into(),
+        }
+    }
+}
+
 /// What settling gives.
 #[derive(Clone, Copy, Debug, PartialEq, Eq)]
 pub struct Shared {
@@ -47,13 +59,22 @@ pub struct Shared {
     pub variance: i128,
     /// The remainder for the next period.
     pub remainder: i128,
+    /// The share of all customers, the paper's R.
+    pub customers: i128,
+    /// The paper's w.
+    pub weight: i128,
     pub secondary: i128,
     pub primary: i128,
 }
 
+/// The rates of a division, which is 0 or 1.
+pub(super) fn rates_of(division: u8) -> &'static Rates {
+    &RATES[usize::from(division)]
+}
+
 /// The shares of a period of the division, which is 0 or 1.
 pub fn share(division: u8, open: Open) -> Shared {
-    let rates = &RATES[usize::from(division)];
+    let rates = rates_of(division);
     let variance = 1_000 * open.cost - rates.base * (open.secondary + open.primary);
     let exact = CUSTOMER_HUNDREDTHS * variance + open.remainder;
     let customers = round(exact, SHARE_DIVISOR);
@@ -65,6 +86,8 @@ pub fn share(division: u8, open: Open) -> Shared {
     Shared {
         variance,
         remainder: exact - SHARE_DIVISOR * customers,
+        customers,
+        weight,
         secondary,
         primary: customers - secondary,
     }

@@ -31,6 +31,16 @@ impl Lines {
         line.ended().to_vec()
     }
 
+    /// The one line of a refused record.
+    pub fn of_refused(record: usize, kind: u8, number: Refusal) -> Vec<u8> {
+        let mut lines = Self {
+            text: Vec::new(),
+            record: record - 1,
+        };
+        lines.refused(kind, number);
+        lines.text
+    }
+
     /// No line yet, with room for what so many bytes of records are likely to print.
     pub fn for_records(bytes: usize) -> Self {
         Self {

@@ -2,6 +2,7 @@
 
 mod kept;
 mod lines;
+pub mod sheets;
 
 use crate::electric::{self, ElectricBook};
 use crate::posted::Replied;

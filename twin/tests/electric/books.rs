@@ -28,7 +28,7 @@ fn inside(random: &mut Random, value: &Stored, gentle: bool) -> i64 {
 }
 
 /// A book within its limits, in any month.
-fn sound_book(random: &mut Random) -> ElectricBook {
+pub fn sound_book(random: &mut Random) -> ElectricBook {
     let mut book = ElectricBook::fresh(random.within(0, 1) as u8);
     // Half of the books are in a month with settling, since it has the more cases.
     book.month = match random.coin() {
@@ -68,7 +68,7 @@ pub fn spoil(random: &mut Random, book: &mut ElectricBook) {
 }
 
 /// A book of any bits, but for `settled`, which is a bool.
-fn wild_book(random: &mut Random) -> ElectricBook {
+pub fn wild_book(random: &mut Random) -> ElectricBook {
     let mut book = ElectricBook::fresh(random.bits() as u8);
     book.month = random.bits() as u8;
     book.settled = random.coin();

@@ -135,8 +135,20 @@ pub fn halved_sales(random: &mut Random, division: u8) -> Sales {
     }
 }
 
+/// Sales whose base cost ends in half a cent: an odd number of 500 kWh for L&P, of 250 for MPS.
+pub fn half_cent_sales(random: &mut Random, division: u8) -> Sales {
+    let unit = [500, 250][usize::from(division)];
+    let most = random.one_of(&[10, 10_000, KWH / unit / 2 - 1]);
+    let kwh = unit * (2 * random.within(0, most) + 1);
+    let secondary = random.within(0, kwh);
+    Sales {
+        secondary,
+        primary: kwh - secondary,
+    }
+}
+
 /// A period of the division whose secondary share is an odd number of halves.
-fn halved_period(random: &mut Random, division: u8) -> Period {
+pub fn halved_period(random: &mut Random, division: u8) -> Period {
     // Equal sales weigh 50515 and 50767, so these and their odd multiples end in a half.
     let (base, unit) = [(1_799, 10_000), (2_538, 50_000)][usize::from(division)];
     let most = 900_000_000_000 / unit / 2;

@@ -2,8 +2,14 @@
 
 #![forbid(unsafe_code)]
 
+#[macro_use]
+#[path = "../common/flaw_list.rs"]
+mod flaw_list;
+
 mod books;
 mod figures;
+#[path = "../common/filed_sheets.rs"]
+mod filed_sheets;
 mod halves;
 mod histories;
 mod in_place;
@@ -13,6 +19,7 @@ mod met;
 mod openings;
 mod refusals;
 mod riders;
+mod sheets;
 mod sides;
 mod stored;
 mod wrong_books;

@@ -192,16 +192,9 @@ fn shares_rounded_apart_are_caught() {
     let change: Change = |step, posted| {
         if step.posting.kind == SETTLE {
             let sold = step.before.period.sales;
-            let open = Open {
-                cost: step.before.period.cost.into(),
-                secondary: sold.secondary.into(),
-                primary: sold.primary.into(),
-                remainder: step.before.period.remainder.into(),
-            };
-            let shared = share(0, open);
-            let customers = shared.secondary + shared.primary;
+            let shared = share(0, Open::of(&step.before.period));
             let weight = weight(sold.primary * 106_231, sold.secondary * 108_443);
-            let apart = round(customers * i128::from(weight), 100_000);
+            let apart = round(shared.customers * i128::from(weight), 100_000);
             posted.book.primary.pending.due += (apart - shared.primary) as i64;
         }
     };

@@ -1,16 +1,5 @@
 //! What can be wrong in a journal program.
 
-macro_rules! flaws {
-    ($($flaw:ident)*) => {
-        /// One thing that is wrong in the plain journal program, or nothing.
-        #[derive(Clone, Copy, Debug, PartialEq, Eq)]
-        pub enum Flaw { Nothing, $($flaw),* }
-
-        /// Every flaw.
-        pub const FLAWS: &[Flaw] = &[$(Flaw::$flaw),*];
-    };
-}
-
 flaws! {
     // Openings
     EmptyIsSeven

@@ -1,11 +1,17 @@
-//! Compares whole journals, as proved and as the twin prints them.
+//! Compares whole journals and their sheets, as proved and as the twin prints them.
 
 #![forbid(unsafe_code)]
+
+#[macro_use]
+#[path = "../common/flaw_list.rs"]
+mod flaw_list;
 
 mod answers;
 mod buffers;
 mod endings;
 mod examples;
+#[path = "../common/filed_sheets.rs"]
+mod filed_sheets;
 mod flaws;
 mod form;
 mod listed;
@@ -16,6 +22,7 @@ mod openings;
 mod plain;
 mod program;
 mod random_journals;
+mod sheets;
 mod sides;
 mod warned;
 mod written;

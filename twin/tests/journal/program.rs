@@ -1,4 +1,4 @@
-//! The built program, from standard input to standard output.
+//! The built program of journals, from standard input to standard output.
 
 use crate::examples::examples;
 use std::fs;
@@ -19,12 +19,12 @@ pub fn repository_top() -> &'static Path {
 /// The program, which the twin's build makes.
 pub const PROGRAM: &str = env!("PROVED_PROGRAM");
 
-/// What the program writes for the input, which it is handed in pieces. Nothing is lost, so it says nothing.
-fn run(input: &[u8], piece: usize) -> Vec<u8> {
-    let mut command = Command::new(PROGRAM);
+/// What a program writes for the input, which it is handed in pieces. Nothing is lost, so it says nothing.
+pub fn run(program: &str, input: &[u8], piece: usize) -> Vec<u8> {
+    let mut command = Command::new(program);
     let piped = command.stdin(Stdio::piped()).stdout(Stdio::piped());
     let started = piped.stderr(Stdio::piped()).spawn();
-    let mut program = started.unwrap_or_else(|error| panic!("{PROGRAM}: {error}"));
+    let mut program = started.unwrap_or_else(|error| panic!("{program}: {error}"));
     let (stdin, stdout) = (program.stdin.take(), program.stdout.take());
     let mut text = Vec::new();
     thread::scope(|scope| {
@@ -50,7 +50,7 @@ fn hand_over(input: &[u8], piece: usize, mut stdin: ChildStdin) {
 }
 
 fn expect(text: &[u8], input: &[u8], piece: usize, origin: &str) {
-    let met = run(input, piece);
+    let met = run(PROGRAM, input, piece);
     if let Some(difference) = first_difference(&met, text) {
         panic!("{difference}\nin pieces of {piece}, {origin}");
     }

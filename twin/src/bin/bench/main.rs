@@ -13,6 +13,7 @@ mod options;
 mod records;
 mod report;
 mod rows;
+mod sheets;
 mod steam;
 mod text;
 mod writers;

@@ -1,7 +1,7 @@
 //! All rows of the benchmark, by name.
 
 use crate::measure::Measurement;
-use crate::{arithmetic, books, journals, records, text};
+use crate::{arithmetic, books, journals, records, sheets, text};
 use twin::electric::ElectricBook;
 use twin::steam::SteamBook;
 
@@ -25,6 +25,7 @@ pub fn all() -> Vec<Row> {
         records::rows(),
         text::rows(),
         books::rows::<ElectricBook>(),
+        sheets::rows(),
         books::rows::<SteamBook>(),
         journals::rows::<ElectricBook>(),
         journals::rows::<SteamBook>(),

@@ -257,13 +257,7 @@ fn level(book: &ElectricBook, number: i64) -> &Level {
 
 /// What the level's next settlement would make pending.
 fn to_pend(book: &ElectricBook, number: i64) -> i128 {
-    let open = Open {
-        cost: book.period.cost.into(),
-        secondary: book.period.sales.secondary.into(),
-        primary: book.period.sales.primary.into(),
-        remainder: book.period.remainder.into(),
-    };
-    let shared = share(book.division, open);
+    let shared = share(book.division, Open::of(&book.period));
     let share = [shared.secondary, shared.primary][number as usize];
     let level = level(book, number);
     share + i128::from(level.carried) + i128::from(level.interest)

@@ -32,10 +32,10 @@ module _ (b : ElectricBook) (w : BookWithin b) {rates : Rates} {shares : Shares}
   shares_are : shares ≡ shares_of (rates_of b.division) b.period
   shares_are = f ∙ ap (λ (r : Rates). shares_or0 r b.period) e ∙ shares_or0_is (rates_of b.division) b.period (division_rates b.division) (period_yes b.period w.period)
 
-  secondary_small : Within 10000000000000 shares.secondary.0
+  secondary_small : Within 4200000000000 shares.secondary.0
   secondary_small = between_same (λ i. (shares_are i).secondary.0) (secondary_within _ b.period (rates_within _ (division_rates b.division)) w.period)
 
-  primary_small : Within 20000000000000 shares.primary.0
+  primary_small : Within 9000000000000 shares.primary.0
   primary_small = between_same (λ i. (shares_are i).primary.0) (primary_within _ b.period (rates_within _ (division_rates b.division)) w.period)
 
 -- what is filed is what the rules file

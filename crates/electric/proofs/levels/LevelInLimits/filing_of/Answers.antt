@@ -19,6 +19,6 @@ pub returns : goal.returns
 unfolding owed_by
 returns c =
     let l = c.args.self in
-    let share : Within 20000000000000 c.args.share.0 = c.requires in
+    let share : Within 9000000000000 c.args.share.0 = c.requires in
     let f : SFits w64 c.args.estimate.0 = search rules in
     c.filed.ensures ∙ same_filed (exact (search (exacts, share, l.within.carried, l.within.interest) depth 30) tt) (to_z-of_z f)

@@ -28,7 +28,7 @@ module _ (s : Settling) {shareable : Remainder} (e : shareable ≡ remainder (sh
     unfolding share_of
     share_is = f ∙ ap (λ (parts : Remainder). cents (round parts.0 (pos 100000))) e
 
-    share_small : Within 5000000000000 share.0
+    share_small : Within 4100000000000 share.0
     share_small = between_same (λ i. (share_is i).0) (share_within s.rates s.period s.rates_within s.period_within)
 
     module _ {weight : Weight} (g : weight ≡ as_weight (weight_by s.rates s.period)) where
