@@ -21,8 +21,8 @@ use Rattle.steam_rules.specs.declared.Mmbtu.{Mmbtu}
 use Rattle.steam_rules.specs.Book.{mmbtu, four}
 use Rattle.electric_rules.specs.declared.ElectricBook.{ElectricBook}
 use Rattle.journal.specs.Lines.{opening_refused}
-use Rattle.journal.specs.Journal.{journal_rows, journal_of, opens_steam, bad_opening, bad_quarters, bad_division, first_byte, quarters_in, steam_lines, electric_lines, steam_run, electric_run, room_of}
-use Rattle.journal.specs.Steps.{opened_book, opened_by, Prints}
+use Rattle.journal.specs.Journal.{journal_rows, journal_of, opens_steam, bad_opening, bad_quarters, bad_division, first_byte, quarters_in, steam_lines, electric_lines, steam_run, electric_run, room_of, opened_book, opened_by}
+use Rattle.journal.specs.Steps.{Prints}
 use Rattle.journal.specs.declared.page.Page.{Page}
 use Rattle.journal.proofs.Storing.{prints_as}
 use Rattle.journal.specs.declared.opening.FreshBook.{FreshBook}

@@ -14,6 +14,8 @@ use Rattle.records.specs.Fields.{field_of}
 use Rattle.records.specs.Records.{read_of}
 use Rattle.records.specs.declared.Found.{Found}
 use Rattle.journal.specs.Lines.{record_line, opening_refused}
+use Rattle.journal.specs.declared.opening.FreshBook.{FreshBook}
+use Rattle.journal.specs.declared.opening.FreshBook.TheVariants as opened
 use Rattle.electric_rules.specs.Book as electric_opening
 use Rattle.electric_rules.specs.Refusals as electric
 use Rattle.steam_rules.specs.Opening as steam_opening
@@ -83,6 +85,14 @@ steam_run bytes = steam_lines (steam_opening.handed_back (quarters_in bytes)) by
 -- at most 65,536 bytes; a longer input or a bad opening prints `refused 7`, an empty one `refused 1`
 abbrev pub journal_rows : List ℕ → List Row
 journal_rows bytes = row OutOfRange (ltb 65536 (length bytes)) ∷ row NoRecord (eqb (length bytes) 0) ∷ row OutOfRange (bad_opening bytes) ∷ []
+
+-- the book that an input opens, or the refusal that is printed in its place
+abbrev pub opened_book : List ℕ → FreshBook
+opened_book bytes =
+    cond (opens_steam bytes) (opened.Steam (steam_opening.handed_back (quarters_in bytes))) (opened.Electric (electric_opening.handed_back (first_byte bytes)))
+
+unfoldable pub opened_by : List ℕ → Result FreshBook Refusal
+opened_by bytes = by_table (journal_rows bytes) (Ok (opened_book bytes)) Err
 
 unfoldable pub journal_of : List ℕ → List ℕ
 journal_of bytes = by_table (journal_rows bytes) (cond (opens_steam bytes) (steam_run bytes) (electric_run bytes)) opening_refused

@@ -2,7 +2,7 @@
 ghost use Rattle.std.specs.Prelude.{◌≡◌, [], ◌∷◌, ltb, length, Ok, Err};
 ghost use Rattle.refusals.specs.Rows.{row, by_table};
 ghost use Rattle.journal.specs.Journal.{quarters_in};
-ghost use Rattle.journal.specs.Steps.{opened_by};
+ghost use Rattle.journal.specs.Journal.{opened_by};
 
 use electric_rules::ElectricBook;
 use refusals::Refusal;

@@ -1,12 +1,12 @@
 -- The example holds. Its numbers are computed from the definitions; their texts by twenty digits at most, since as many steps as a number says
 -- are more than the check has room for. Assumes nothing.
 use Rattle.std.specs.Prelude.{◌≡◌, refl, Bool, true, ◌&&◌, T, ltb, codes, List, [], ◌∷◌, ◌++◌, ℕ, ◌/◌, ◌^◌, ℤ, nat_abs}
-use Rattle.std.proofs.Common.{sym, ap, ◌∙◌, ltb→lt}
+use Rattle.std.proofs.Common.{sym, ap, ltb→lt}
 use Rattle.ints.specs.Digits.{digits}
 use Rattle.ints.specs.Flags.{T_left, T_right}
 use Rattle.rounding.specs.Round.{tie_of, rounded_of, nearest_of, round}
 use Rattle.rounding.specs.Weight.{weight_of}
-use Rattle.amounts.specs.Text.{characters, cents_text, points_text, text_of, sign_of, decimal, width_of, width_in}
+use Rattle.amounts.specs.Text.{characters, cents_text, points_text, text_of, sign_of, decimal, width_in}
 use Rattle.amounts.proofs.Widths.{few_steps}
 use Rattle.postings.specs.Kinds.{kind_of}
 use Rattle.riders.specs.Months.{month_after}
@@ -18,7 +18,7 @@ use Rattle.sheet_rows.specs.declared.cells.Cell.TheVariants.{Blank, Money, Facto
 use Rattle.sheet_rows.specs.Cells.{thousandths_text, cell_text}
 use Rattle.sheet_rows.specs.Rows.{Row, set_left, set_right, row_text, rows_text}
 use Rattle.sheet.specs.Figures.{base_cost, first_interim, adjusted, adjusted_total, previous_factor}
-use Rattle.sheet.specs.Sheet.{sheet_of, sheet_rows}
+use Rattle.sheet.specs.Sheet.{sheet_text, sheet_by}
 use Rattle.sheet.specs.Examples.{ExampleHolds}
 
 -- ---- a text by twenty digits at most
@@ -78,7 +78,7 @@ lines (r ∷ rows) =
 lines_are : (rows : List Row) → T (all_few rows) → rows_text rows ≡ lines rows
 unfolding rows_text row_text
 lines_are [] t = refl
-lines_are (r ∷ rows) t = 
+lines_are (r ∷ rows) t =
     let s = T_right (few r.total) _ t in
     let p = T_right (few r.secondary) _ s in
     let total = cell_is r.total (T_left (few r.total) _ t) in
@@ -87,5 +87,5 @@ lines_are (r ∷ rows) t =
     λ i. set_left 4 r.number ++ set_left 31 r.label ++ set_right 15 (total i) ++ set_right 15 (secondary i) ++ set_right 15 (primary i) ++ codes "\n" ++ lines_are rows (T_right (few r.primary) _ p) i
 
 pub example_holds : ExampleHolds
-unfolding sheet_of sheet_rows set_left set_right sign_of width_in digits base_cost first_interim adjusted adjusted_total previous_factor variance_of shareable_of share_of weight_by weight_of secondary_share primary_share owed_by round nearest_of rounded_of tie_of kind_of factor_for month_after
+unfolding sheet_text sheet_by set_left set_right sign_of width_in digits base_cost first_interim adjusted adjusted_total previous_factor variance_of shareable_of share_of weight_by weight_of secondary_share primary_share owed_by round nearest_of rounded_of tie_of kind_of factor_for month_after
 example_holds = lines_are _ tt

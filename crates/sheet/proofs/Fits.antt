@@ -1,5 +1,5 @@
 -- No cell of a sheet is cut, for any rates that a sheet may state, and the sheet of every accepted settlement is 16 × 81 bytes. Assumes nothing.
-use Rattle.std.specs.Prelude.{◌≡◌, refl, ℕ, ◌/◌, ◌^◌, ◌≤◌, ◌<◌, T, leb, length, ℤ, nat_abs, codes, List, [], ◌∷◌}
+use Rattle.std.specs.Prelude.{refl, ℕ, ◌≤◌, T, leb, length, ℤ, nat_abs, codes}
 use Rattle.std.proofs.Common.{arith, leb→le}
 use Rattle.std.proofs.lemmas.List.{length-append}
 use Rattle.ints.specs.Range.{Between, Within}
@@ -14,8 +14,8 @@ use Rattle.sheet_rows.specs.declared.cells.Cell.TheVariants.{Blank, Money, Facto
 use Rattle.sheet_rows.specs.Cells.{thousandths_text, cell_text}
 use Rattle.sheet_rows.specs.Rows.{Row}
 use Rattle.sheet_rows.proofs.Laying.{length_row}
-use Rattle.sheet.specs.Sheet.{sheet_rows, settlement_of, rows_at}
-use Rattle.sheet.specs.Claims.{RowFits, RowsFit, EverySheetFits, SheetFills}
+use Rattle.sheet.specs.Sheet.{sheet_by, settlement_of}
+use Rattle.sheet.specs.Claims.{RowFits, EverySheetFits, SheetFills}
 use Rattle.sheet.proofs.Sizes.{base_within, interim_within, adjusted_within, total_within, rest_within, previous_within}
 use Rattle.sheet.proofs.Accepted.{accepted}
 use Rattle.sheet.proofs.Writing.{length_sheet}
@@ -50,12 +50,11 @@ fits r n t s p =
     record { characters = length_row r; number = leb→le (length r.number) 4 n; total = cell_fits r.total t; secondary = cell_fits r.secondary s; primary = cell_fits r.primary p }
 
 infixr 4 ◌then◌
-
 ◌then◌ : {A B : Type 0} → A → B → A × B
 ◌then◌ first below = (first, below)
 
 pub every_sheet_fits : EverySheetFits
-unfolding sheet_rows
+unfolding sheet_by
 every_sheet_fits r b n e rs bs ns es ep =
     let p = b.period in
     let ps = bs.period in
@@ -84,7 +83,7 @@ every_sheet_fits r b n e rs bs ns es ep =
     then tt
 
 pub sheet_fills : SheetFills
-unfolding sheet_rows
+unfolding sheet_by
 sheet_fills b e k =
     let a = accepted b e k in
     (refl, every_sheet_fits (rates_of b.division) b (next_of b (settlement_of e)) e (rates_within _ (division_rates b.division)) a.found a.settled a.secondary a.primary, length_sheet b e)

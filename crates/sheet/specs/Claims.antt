@@ -10,7 +10,7 @@ use Rattle.electric_rules.specs.Refusals.{rows_of}
 use Rattle.electric_rules.specs.Sizes.{RatesWithin}
 use Rattle.sheet_rows.specs.Cells.{cell_text}
 use Rattle.sheet_rows.specs.Rows.{Row, row_text}
-use Rattle.sheet.specs.Sheet.{sheet_rows, settlement_of, rows_at, sheet_of}
+use Rattle.sheet.specs.Sheet.{sheet_by, settlement_of, sheet_of, sheet_text}
 
 -- a row is 80 characters, of which the number and the cells are whole: only a label is cut
 pub record RowFits (r : Row) : Type 0 where
@@ -29,10 +29,10 @@ abbrev pub EverySheetFits : Type 0
 EverySheetFits =
     (r : Rates) (found settled : ElectricBook) (estimates : Sales) → RatesWithin r → BookWithin found → BookWithin settled →
     Between (pos 1) (pos 10000000000) estimates.secondary.0 → Between (pos 1) (pos 10000000000) estimates.primary.0 →
-    RowsFit (sheet_rows r found settled estimates)
+    RowsFit (sheet_by r found settled estimates)
 
 -- the sheet of every accepted settlement is exactly 16 × 81 bytes
 abbrev pub SheetFills : Type 0
 SheetFills =
     (b : ElectricBook) (estimates : Sales) → refusal_by (rows_of b (settlement_of estimates)) ≡ None →
-    (length (rows_at b estimates) ≡ 16) × RowsFit (rows_at b estimates) × (length (sheet_of b estimates) ≡ 16 * 81)
+    (length (sheet_of b estimates) ≡ 16) × RowsFit (sheet_of b estimates) × (length (sheet_text b estimates) ≡ 16 * 81)

@@ -4,7 +4,7 @@ use Rattle.std.specs.Prelude.{◌≡◌, codes, ◌++◌, false, pos}
 use Rattle.electric_rules.specs.declared.ElectricBook.{ElectricBook}
 use Rattle.electric_rules.specs.declared.Sales.{Sales}
 use Rattle.electric_rules.specs.Book.{sales_of, period_of, fresh_level}
-use Rattle.sheet.specs.Sheet.{sheet_of}
+use Rattle.sheet.specs.Sheet.{sheet_text}
 
 abbrev november : ElectricBook
 november =
@@ -22,7 +22,7 @@ estimates = sales_of (pos 1250000) (pos 800000)
 
 abbrev pub ExampleHolds : Type 0
 ExampleHolds =
-    sheet_of november estimates
+    sheet_text november estimates
     ≡ codes "1   Total energy cost (F, P, and E)       20000.00                              \n"
     ++ codes "2   Base energy cost (B)                  17990.00                              \n"
     ++ codes "3   First Interim Total                    2010.00                              \n"

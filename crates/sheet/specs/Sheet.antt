@@ -1,5 +1,5 @@
 -- The factor sheet of a settlement (02, a; source document 002, sheet 127), and what writing it gives.
-use Rattle.std.specs.Prelude.{List, [], ◌∷◌, ◌++◌, ℕ, ltb, length, ℤ, pos, ◌-ℤ◌, Result}
+use Rattle.std.specs.Prelude.{List, [], ◌∷◌, ◌++◌, ℕ, ltb, length, pos, ◌-ℤ◌, Result}
 use Rattle.refusals.specs.Writer.{written_by, buffer_left}
 use Rattle.refusals.specs.declared.Refusal.{Refusal}
 use Rattle.refusals.specs.declared.Refusal.TheVariants.{BufferTooShort}
@@ -19,28 +19,33 @@ use Rattle.sheet_rows.specs.Rows.{Row, row, rows_text}
 use Rattle.sheet.specs.Figures.{base_cost, first_interim, adjusted, adjusted_total, previous_factor, annual_factor}
 use Rattle.refusals.specs.Rows as refusal
 
--- by the rates, the book that the settlement finds, the book after it and the estimates: number, label, total, secondary, primary
-unfoldable pub sheet_rows : Rates → ElectricBook → ElectricBook → Sales → List Row
-sheet_rows r found settled estimates =
+-- the sheet, row by row: number, label, total, secondary, primary. By the rates, the book that the settlement finds, the settled book and the
+-- estimates. Labels are source document 002's, and cut where they are printed
+unfoldable pub sheet_by : Rates → ElectricBook → ElectricBook → Sales → List Row
+sheet_by r found settled estimates =
     let p = found.period in
+    let filed_secondary = settled.secondary.pending in
+    let filed_primary = settled.primary.pending in
+    let previous_secondary = previous_factor found.month found.secondary in
+    let previous_primary = previous_factor found.month found.primary in
     row "1" "Total energy cost (F, P, and E)" (Money p.cost) Blank Blank
     ∷ row "2" "Base energy cost (B)" (Money (cents (base_cost r p))) Blank Blank
     ∷ row "3" "First Interim Total" (Money (cents (first_interim r p))) Blank Blank
     ∷ row "4" "Base energy (S_A) by voltage level" Blank (Energy p.sales.secondary) (Energy p.sales.primary)
     ∷ row "4.1" "Loss factors (L)" Blank (in_thousandths r.secondary) (in_thousandths r.primary)
-    ∷ row "4.2" "S_A adjusted for losses" (Energy (kwh (adjusted_total r p))) (Energy (kwh (adjusted p.sales.secondary.0 r.secondary))) (Energy (kwh (adjusted p.sales.primary.0 r.primary)))
+    ∷ row "4.2" "S_A adjusted for losses" (Energy (kwh (adjusted_total r p)))
+    (Energy (kwh (adjusted p.sales.secondary.0 r.secondary))) (Energy (kwh (adjusted p.sales.primary.0 r.primary)))
     ∷ row "4.3" "Loss factor weights" Blank (in_thousandths (weight_by r p)) (in_thousandths (pos 100000 -ℤ weight_by r p))
     ∷ row "5" "Customer Responsibility" (as_percentage r.percentage) Blank Blank
     ∷ row "6" "Second Interim Total by voltage level" (Money (cents (share_of r p))) (Money (cents (secondary_share r p))) (Money (cents (primary_share r p)))
     ∷ row "7" "Adjustment for Under / Over recovery for prior periods (C)" Blank (Money found.secondary.carried) (Money found.primary.carried)
     ∷ row "8" "Interest (I)" Blank (Money found.secondary.interest) (Money found.primary.interest)
-    ∷ row "9" "Fuel Adjustment Clause" Blank (Money settled.secondary.pending.due) (Money settled.primary.pending.due)
+    ∷ row "9" "Fuel Adjustment Clause" Blank (Money filed_secondary.due) (Money filed_primary.due)
     ∷ row "10" "Estimated recovery period sales kWh (S_R)" Blank (Energy estimates.secondary) (Energy estimates.primary)
-    ∷ row "11" "Current period cost adjustment factor" Blank (Factor settled.secondary.pending.factor) (Factor settled.primary.pending.factor)
-    ∷ row "12" "Previous period cost adjustment factor" Blank (Factor (previous_factor found.month found.secondary)) (Factor (previous_factor found.month found.primary))
+    ∷ row "11" "Current period cost adjustment factor" Blank (Factor filed_secondary.factor) (Factor filed_primary.factor)
+    ∷ row "12" "Previous period cost adjustment factor" Blank (Factor previous_secondary) (Factor previous_primary)
     ∷ row "13" "Current annual cost adjustment factor" Blank
-      (Factor (annual_factor settled.secondary.pending.factor (previous_factor found.month found.secondary)))
-      (Factor (annual_factor settled.primary.pending.factor (previous_factor found.month found.primary)))
+    (Factor (annual_factor filed_secondary.factor previous_secondary)) (Factor (annual_factor filed_primary.factor previous_primary))
     ∷ []
 
 -- the settle posting with these two estimates
@@ -48,19 +53,19 @@ abbrev pub settlement_of : Sales → Posting
 settlement_of estimates = record { kind = 4; first = estimates.secondary.0; second = estimates.primary.0; third = pos 0 }
 
 -- the sheet of that settlement, and its text
-abbrev pub rows_at : ElectricBook → Sales → List Row
-rows_at b estimates = sheet_rows (rates_of b.division) b (next_of b (settlement_of estimates)) estimates
+abbrev pub sheet_of : ElectricBook → Sales → List Row
+sheet_of b estimates = sheet_by (rates_of b.division) b (next_of b (settlement_of estimates)) estimates
 
-unfoldable pub sheet_of : ElectricBook → Sales → List ℕ
-sheet_of b estimates = rows_text (rows_at b estimates)
+unfoldable pub sheet_text : ElectricBook → Sales → List ℕ
+sheet_text b estimates = rows_text (sheet_of b estimates)
 
 -- the settlement's own refusal, then 13: a page under 1,296 bytes
-abbrev pub sheet_table : ElectricBook → Sales → List ℕ → List refusal.Row
-sheet_table b estimates page = rows_of b (settlement_of estimates) ++ (refusal.row BufferTooShort (ltb (length page) 1296) ∷ [])
+abbrev pub refusal_rows : ElectricBook → Sales → List ℕ → List refusal.Row
+refusal_rows b estimates page = rows_of b (settlement_of estimates) ++ (refusal.row BufferTooShort (ltb (length page) 1296) ∷ [])
 
 -- what the writer of the sheet answers, and what it leaves on the page: every byte as it was where it refuses
 unfoldable pub sheet_written : ElectricBook → Sales → List ℕ → Result ℕ Refusal
-sheet_written b estimates page = written_by (sheet_table b estimates page) (sheet_of b estimates)
+sheet_written b estimates page = written_by (refusal_rows b estimates page) (sheet_text b estimates)
 
 unfoldable pub sheet_left : ElectricBook → Sales → List ℕ → List ℕ
-sheet_left b estimates page = buffer_left (sheet_table b estimates page) (sheet_of b estimates) page
+sheet_left b estimates page = buffer_left (refusal_rows b estimates page) (sheet_text b estimates) page

@@ -10,7 +10,7 @@ ghost use Rattle.electric_rules.specs.Settlement.{weight_by};
 ghost use Rattle.electric_settlement.specs.Shares.{as_weight, shares_of};
 ghost use Rattle.sheet_rows.specs.Rows.{shown};
 ghost use Rattle.sheet.specs.Figures.{base_cost, first_interim, adjusted, previous_factor, annual_factor};
-ghost use Rattle.sheet.specs.Sheet.{sheet_rows};
+ghost use Rattle.sheet.specs.Sheet.{sheet_by};
 
 use amounts::{Cents, Points};
 use electric_refusals::calendar;
@@ -77,18 +77,14 @@ impl Filing {
 
     // Rows 1 to 3.
     fn cost_rows(self) -> [Row<'static>; 3]
-        ensures { map shown result ≡ take 3 (sheet_rows self.rates self.found self.settled self.estimates) }
+        ensures { map shown result ≡ take 3 (sheet_by self.rates self.found self.settled self.estimates) }
     {
         let cost = self.found.period.cost;
         let base = self.base_cost();
         [
-            Row::total(
-                b"1",
-                b"Total energy cost (F, P, and E)",
-                Cell::Money(cost),
-            ),
-            Row::total(b"2", b"Base energy cost (B)", Cell::Money(base)),
-            Row::total(
+            Row::of_total(b"1", b"Total energy cost (F, P, and E)", Cell::Money(cost)),
+            Row::of_total(b"2", b"Base energy cost (B)", Cell::Money(base)),
+            Row::of_total(
                 b"3",
                 b"First Interim Total",
                 Cell::Money(Cents(cost.0 - base.0)),
@@ -99,19 +95,19 @@ impl Filing {
     // Rows 4 to 4.3, by the weight of the settlement.
     fn energy_rows(self, weight: Weight) -> [Row<'static>; 4]
         requires { weight ≡ as_weight (weight_by self.rates self.found.period) }
-        ensures { map shown result ≡ take 4 (drop 3 (sheet_rows self.rates self.found self.settled self.estimates)) }
+        ensures { map shown result ≡ take 4 (drop 3 (sheet_by self.rates self.found self.settled self.estimates)) }
     {
         let sold = self.found.period.sales;
         let secondary = adjusted(sold.secondary, self.rates.secondary);
         let primary = adjusted(sold.primary, self.rates.primary);
         [
-            Row::levels(
+            Row::of_levels(
                 b"4",
                 b"Base energy (S_A) by voltage level",
                 Cell::Energy(sold.secondary),
                 Cell::Energy(sold.primary),
             ),
-            Row::levels(
+            Row::of_levels(
                 b"4.1",
                 b"Loss factors (L)",
                 Cell::Proportion(Thousandths(self.rates.secondary)),
@@ -124,7 +120,7 @@ impl Filing {
                 Cell::Energy(secondary),
                 Cell::Energy(primary),
             ),
-            Row::levels(
+            Row::of_levels(
                 b"4.3",
                 b"Loss factor weights",
                 Cell::Proportion(Thousandths(weight.0)),
@@ -136,10 +132,10 @@ impl Filing {
     // Rows 5 and 6, by what the settlement shares.
     fn share_rows(self, shares: Shares) -> [Row<'static>; 2]
         requires { shares ≡ shares_of self.rates self.found.period }
-        ensures { map shown result ≡ take 2 (drop 7 (sheet_rows self.rates self.found self.settled self.estimates)) }
+        ensures { map shown result ≡ take 2 (drop 7 (sheet_by self.rates self.found self.settled self.estimates)) }
     {
         [
-            Row::total(
+            Row::of_total(
                 b"5",
                 b"Customer Responsibility",
                 Cell::Percentage(Percentage(self.rates.percentage)),
@@ -156,28 +152,28 @@ impl Filing {
 
     // Rows 7 to 10.
     fn owed_rows(self) -> [Row<'static>; 4]
-        ensures { map shown result ≡ take 4 (drop 9 (sheet_rows self.rates self.found self.settled self.estimates)) }
+        ensures { map shown result ≡ take 4 (drop 9 (sheet_by self.rates self.found self.settled self.estimates)) }
     {
         [
-            Row::levels(
+            Row::of_levels(
                 b"7",
                 b"Adjustment for Under / Over recovery for prior periods (C)",
                 Cell::Money(self.found.secondary.carried),
                 Cell::Money(self.found.primary.carried),
             ),
-            Row::levels(
+            Row::of_levels(
                 b"8",
                 b"Interest (I)",
                 Cell::Money(self.found.secondary.interest),
                 Cell::Money(self.found.primary.interest),
             ),
-            Row::levels(
+            Row::of_levels(
                 b"9",
                 b"Fuel Adjustment Clause",
                 Cell::Money(self.settled.secondary.pending.due),
                 Cell::Money(self.settled.primary.pending.due),
             ),
-            Row::levels(
+            Row::of_levels(
                 b"10",
                 b"Estimated recovery period sales kWh (S_R)",
                 Cell::Energy(self.estimates.secondary),
@@ -188,26 +184,26 @@ impl Filing {
 
     // Rows 11 to 13.
     fn factor_rows(self) -> [Row<'static>; 3]
-        ensures { map shown result ≡ drop 13 (sheet_rows self.rates self.found self.settled self.estimates) }
+        ensures { map shown result ≡ drop 13 (sheet_by self.rates self.found self.settled self.estimates) }
     {
         let secondary = self.settled.secondary.pending.factor;
         let primary = self.settled.primary.pending.factor;
         let secondary_before = previous(self.found.month, self.found.secondary);
         let primary_before = previous(self.found.month, self.found.primary);
         [
-            Row::levels(
+            Row::of_levels(
                 b"11",
                 b"Current period cost adjustment factor",
                 Cell::Factor(secondary),
                 Cell::Factor(primary),
             ),
-            Row::levels(
+            Row::of_levels(
                 b"12",
                 b"Previous period cost adjustment factor",
                 Cell::Factor(secondary_before),
                 Cell::Factor(primary_before),
             ),
-            Row::levels(
+            Row::of_levels(
                 b"13",
                 b"Current annual cost adjustment factor",
                 Cell::Factor(annual(secondary, secondary_before)),
@@ -218,7 +214,7 @@ impl Filing {
 
     // The sheet from top to bottom.
     pub(crate) fn rows(self) -> [Row<'static>; 16]
-        ensures { map shown result ≡ sheet_rows self.rates self.found self.settled self.estimates }
+        ensures { map shown result ≡ sheet_by self.rates self.found self.settled self.estimates }
     {
         let shares = electric_settlement::shares_of(self.rates, self.found.period);
         let [row_1, row_2, row_3] = self.cost_rows();

@@ -1,5 +1,5 @@
 -- The text of a cell, stored at the front of a buffer. Assumes nothing.
-use Rattle.std.specs.Prelude.{◌≡◌, refl, codes, List, [], ◌∷◌, ◌++◌, ℕ, ◌+◌, ◌<◌, ◌≤◌, length, set, take, drop, min}
+use Rattle.std.specs.Prelude.{◌≡◌, refl, codes, List, ◌++◌, ℕ, ◌+◌, ◌<◌, ◌≤◌, length, set, take, drop, min}
 use Rattle.std.proofs.Common.{sym, ap, ◌∙◌, arith}
 use Rattle.std.proofs.lemmas.List.{length-append, length-take, take-take, take-append-drop}
 use Rattle.std.proofs.lemmas.List.Edits.{sets}
@@ -21,10 +21,11 @@ pub percent_behind :
 percent_behind buffer text {after} {whole} {count} p room q =
     let long = length-append text (codes "%") in
     let is : after ≡ sets buffer 0 text = p.2 ∙ sym (stored text buffer (sets buffer 0 text) (omega (arith, p.0, p.1)) refl) in
-    let at : count ≡ 0 + length text = omega (arith, p.0) in
-    (omega (arith, p.0, q.0, long),
-    omega (arith, p.1, q.0),
-    stored (text ++ codes "%") buffer whole (omega (arith, p.0, p.1, long)) (q.1 ∙ (λ i. set (is i) (at i) 37) ∙ sym (sets_append buffer 0 text (codes "%"))))
+    let at : count ≡ 0 + length text = omega (arith, p.0) in (
+      omega (arith, p.0, q.0, long),
+      omega (arith, p.1, q.0),
+      stored (text ++ codes "%") buffer whole (omega (arith, p.0, p.1, long)) (q.1 ∙ (λ i. set (is i) (at i) 37) ∙ sym (sets_append buffer 0 text (codes "%"))),
+    )
 
 -- what is taken of it from the front, at most fifteen
 pub front_taken :
@@ -34,5 +35,5 @@ front_taken text buffer {after} {count} {cut} e left room f =
     let whole : take count after ≡ text = ap (take count) left ∙ left_front text buffer count e room in
     let short : cut ≡ length (take 15 text) = omega (arith, length-take 15 text) in
     let all : take cut text ≡ take 15 text =
-        (λ i. take (short i) (sym (take-append-drop 15 text) i)) ∙ take-append_seam (take 15 text) (drop 15 text) in
+    (λ i. take (short i) (sym (take-append-drop 15 text) i)) ∙ take-append_seam (take 15 text) (drop 15 text) in
     (short, sym (take-take cut count after (omega arith)) ∙ ap (take cut) whole ∙ all)

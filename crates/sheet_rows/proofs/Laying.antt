@@ -1,5 +1,5 @@
 -- Texts set into blanks, one behind the other, make a line, and lines with their line feeds the rows. Assumes nothing.
-use Rattle.std.specs.Prelude.{◌≡◌, refl, codes, List, [], ◌∷◌, ◌++◌, ℕ, zero, suc, ◌+◌, ◌*◌, ◌-◌, ◌≤◌, length, set, take, drop, replicate}
+use Rattle.std.specs.Prelude.{◌≡◌, refl, codes, List, [], ◌∷◌, ◌++◌, ℕ, ◌+◌, ◌*◌, ◌-◌, ◌≤◌, length, set, take, drop}
 use Rattle.std.proofs.Common.{sym, ap, ◌∙◌, arith}
 use Rattle.std.proofs.lemmas.List.{length-append, length-take, length-replicate, take-replicate, drop-replicate, replicate-append-replicate, append-nil, append_assoc}
 use Rattle.std.proofs.lemmas.List.Edits.{sets, sets-eq}

@@ -1,11 +1,11 @@
 -- How a row of the factor sheet is laid out (02, a).
-use Rattle.std.specs.Prelude.{codes, List, [], ◌∷◌, ◌++◌, map, ℕ, ◌-◌, length, take, replicate}
+use Rattle.std.specs.Prelude.{codes, List, [], ◌∷◌, ◌++◌, ℕ, ◌-◌, length, take, replicate}
 use Prim.Native.String.{String}
 use Rattle.sheet_rows.specs.Cells.{cell_text}
 use Rattle.sheet_rows.specs.declared.cells.Cell.{Cell}
 use Rattle.sheet_rows.specs.declared.Row as code
 
--- a row as the sheet has it
+-- a row of the sheet: its number, its label as it is spelled, and what stands in its cells
 pub record Row : Type 0 where
   pub number : List ℕ
   pub label : List ℕ
@@ -19,7 +19,7 @@ row_of number label total secondary primary = record { number = number; label = 
 abbrev pub row : String → String → Cell → Cell → Cell → Row
 row number label = row_of (codes number) (codes label)
 
--- the row that the code's has references to
+-- a row of the code, by the texts that it refers to
 abbrev pub shown : code.Row → Row
 shown r = row_of r.number.now r.label.now r.total r.secondary r.primary
 

@@ -71,15 +71,15 @@ impl<'a> Row<'a> {
         }
     }
 
-    // A row of a total alone.
-    pub fn total(number: &'a [u8], label: &'a [u8], total: Cell) -> Row<'a>
+    // A row of a total alone: the cells that the sheet lacks are blank.
+    pub fn of_total(number: &'a [u8], label: &'a [u8], total: Cell) -> Row<'a>
         ensures { shown result ≡ row_of number.now label.now total Cell.Blank Cell.Blank }
     {
         Row::new(number, label, total, Cell::Blank, Cell::Blank)
     }
 
     // A row of both levels alone.
-    pub fn levels(number: &'a [u8], label: &'a [u8], secondary: Cell, primary: Cell) -> Row<'a>
+    pub fn of_levels(number: &'a [u8], label: &'a [u8], secondary: Cell, primary: Cell) -> Row<'a>
         ensures { shown result ≡ row_of number.now label.now Cell.Blank secondary primary }
     {
         Row::new(number, label, Cell::Blank, secondary, primary)

@@ -1,20 +1,17 @@
 -- `write` refuses as the settlement does, else writes its sheet. Assumes nothing.
-use Rattle.std.proofs.Common.{◌≡◌, ◌∙◌, sym, ap, subst, rules as common, true, ℕ, List, Result, Ok, Err, None, map}
+use Rattle.std.proofs.Common.{◌≡◌, ◌∙◌, sym, ap, subst, rules as common, true, ℕ, List, Err, None, map}
 use Rattle.refusals.specs.Rows.{refusal_by}
 use Rattle.refusals.specs.declared.Refusal.{Refusal}
 use Rattle.refusals.proofs.TableLaws.{gives_asked, table_accepts, table_refuses}
 use Rattle.amounts.specs.Text.{text_written, text_left}
-use Rattle.postings.specs.declared.Posting.{Posting}
 use Rattle.riders.specs.Rules.{answered_by, left_by}
-use Rattle.electric_rules.specs.declared.ElectricBook.{ElectricBook}
-use Rattle.electric_rules.specs.declared.Rates.{Rates}
 use Rattle.electric_rules.specs.Rates.{rates_in_range}
 use Rattle.electric_rules.specs.Next.{next_of, answer_of}
 use Rattle.electric_rules.specs.Ranges.{BookWithin}
 use Rattle.electric_rules.specs.Refusals.{rules, rows_of}
 use Rattle.electric_rules.specs.Sizes.{rates_within, division_rates}
-use Rattle.sheet_rows.specs.Rows.{Row, shown, rows_text}
-use Rattle.sheet.specs.Sheet.{sheet_rows, settlement_of, sheet_of}
+use Rattle.sheet_rows.specs.Rows.{shown, rows_text}
+use Rattle.sheet.specs.Sheet.{sheet_by, settlement_of, sheet_text}
 use Rattle.sheet.proofs.Accepted.{accepted}
 use Rattle.sheet.proofs.Writing.{refused, answered, left}
 use Rattle.sheet.proofs.write.Goals as goal
@@ -58,15 +55,14 @@ invariant_of-filing c =
     }
 
 pub returns : goal.returns
-unfolding answered_by sheet_of
+unfolding answered_by sheet_text
 returns c =
     let d = (goal.at.returns c).After-take in
     let b = c.args.book in
     let p = settlement_of c.args.estimates in
     let page = c.args.page.now in
     let none = (table_accepts (rows_of b p) (answer_of b p) (sym c.in_ok-take.was ∙ answer_is d)).0 in
-    let sheet_is : rows_text (map shown c.rows.result) ≡ sheet_of b c.args.estimates = ap rows_text (c.rows.ensures ∙ (λ i. sheet_rows (c.rates_of.ensures i) b (book_is d none i) c.args.estimates)) in
-    (
+    let sheet_is : rows_text (map shown c.rows.result) ≡ sheet_text b c.args.estimates = ap rows_text (c.rows.ensures ∙ (λ i. sheet_by (c.rates_of.ensures i) b (book_is d none i) c.args.estimates)) in (
       c.write.ensures.0 ∙ ap (λ (text : List ℕ). text_written text page) sheet_is ∙ answered b c.args.estimates page none,
       c.write.ensures.1 ∙ ap (λ (text : List ℕ). text_left text page) sheet_is ∙ left b c.args.estimates page none,
     )

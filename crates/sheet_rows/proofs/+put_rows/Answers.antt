@@ -1,5 +1,5 @@
 -- `put_rows` stores the first row and its line feed, and the rows below behind them. Assumes nothing.
-use Rattle.std.proofs.Common.{◌≡◌, refl, ◌∙◌, arith, ap, sym, map, ℕ, List, [], ◌∷◌, length}
+use Rattle.std.proofs.Common.{◌≡◌, refl, ◌∙◌, arith, ap, sym, map, List, [], ◌∷◌, length}
 use Rattle.std.proofs.lemmas.List.Edits.{sets}
 use Rattle.sheet_rows.specs.declared.Row.{Row}
 use Rattle.sheet_rows.specs.Rows.{shown, rows_text}

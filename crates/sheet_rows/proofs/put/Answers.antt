@@ -1,5 +1,5 @@
 -- `put` stores the text where it is to stand. Assumes nothing.
-use Rattle.std.proofs.Common.{sym, ap, ◌∙◌, arith, append_assoc, List, ℕ, ◌+◌, ◌++◌, length, take, drop}
+use Rattle.std.proofs.Common.{sym, ◌∙◌, arith, append_assoc, ◌+◌, ◌++◌, length, take, drop}
 use Rattle.std.proofs.lemmas.List.Edits.{sets-eq}
 use borrow.Rule.Slice.PartMut.{Post-is}
 use Rattle.sheet_rows.proofs.put.Goals as goal

@@ -1,5 +1,5 @@
 -- `previous` is the factor of the run beside the one that enters. Assumes nothing.
-use Rattle.std.proofs.Common.{◌≡◌, sym, ap, ◌∙◌, ℕ, Option, Some, None}
+use Rattle.std.proofs.Common.{◌≡◌, sym, ap, ◌∙◌, Option, Some}
 use Rattle.riders.specs.Months.{month_after}
 use Rattle.electric_rules.specs.declared.EnteringRun.{EnteringRun}
 use Rattle.electric_rules.specs.Calendar.{entering}

@@ -7,7 +7,7 @@ use Rattle.amounts.specs.Amounts.{cents}
 use Rattle.sheet_rows.specs.declared.cells.Cell.TheVariants.{Blank, Money}
 use Rattle.sheet_rows.specs.Rows.{row}
 use Rattle.sheet.specs.Figures.{first_interim}
-use Rattle.sheet.specs.Sheet.{sheet_rows}
+use Rattle.sheet.specs.Sheet.{sheet_by}
 use Rattle.sheet.proofs.Sizes.{base_within}
 use Rattle.sheet.proofs.filing.Filing.cost_rows.Goals as goal
 use Rattle.sheet.proofs.filing.Filing.cost_rows.Goals.{After-base_cost-base}
@@ -24,7 +24,7 @@ overflow_sub-cost c =
     fits64 (search (bounds, base, cost) depth 30) tt
 
 pub returns : goal.returns
-unfolding sheet_rows first_interim
+unfolding sheet_by first_interim
 returns c =
     let s = c.args.self in
     let base = base_small (goal.at.returns c).After-base_cost-base in
@@ -32,4 +32,4 @@ returns c =
     let cost = s.found_within.period.cost in
     let interim : to_z w64 (of_z w64 (to_z w64 (of_z w64 s.found.period.cost.0) -ℤ to_z w64 (of_z w64 c.base_cost-base.result.0))) ≡ s.found.period.cost.0 -ℤ c.base_cost-base.result.0 = exact (search (exacts, base, cost) depth 30) tt in
     let third = interim ∙ (λ i. s.found.period.cost.0 -ℤ (e i).0) in
-    λ i. c.total.ensures i ∷ (c.total-2.ensures ∙ (λ j. row "2" "Base energy cost (B)" (Money (e j)) Blank Blank)) i ∷ (c.total-3.ensures ∙ (λ j. row "3" "First Interim Total" (Money (cents (third j))) Blank Blank)) i ∷ []
+    λ i. c.of_total.ensures i ∷ (c.of_total-2.ensures ∙ (λ j. row "2" "Base energy cost (B)" (Money (e j)) Blank Blank)) i ∷ (c.of_total-3.ensures ∙ (λ j. row "3" "First Interim Total" (Money (cents (third j))) Blank Blank)) i ∷ []

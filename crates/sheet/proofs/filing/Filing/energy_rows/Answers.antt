@@ -9,7 +9,7 @@ use Rattle.sheet_rows.specs.declared.cells.Cell.TheVariants.{Blank, Energy}
 use Rattle.sheet_rows.specs.Cells.{in_thousandths}
 use Rattle.sheet_rows.specs.Rows.{row}
 use Rattle.sheet.specs.Figures.{adjusted, adjusted_total}
-use Rattle.sheet.specs.Sheet.{sheet_rows}
+use Rattle.sheet.specs.Sheet.{sheet_by}
 use Rattle.sheet.proofs.Sizes.{adjusted_within}
 use Rattle.sheet.proofs.filing.Filing.energy_rows.Goals as goal
 use Rattle.sheet.proofs.filing.Filing.energy_rows.Goals.{After-adjusted-primary}
@@ -52,7 +52,7 @@ overflow_sub-weight c =
     let weight = weight_small (goal.at.overflow_sub-weight c).After-adjusted-primary in fits64 (search (bounds, weight) depth 30) tt
 
 pub returns : goal.returns
-unfolding sheet_rows adjusted_total
+unfolding sheet_by adjusted_total
 returns c =
     let d = (goal.at.returns c).After-adjusted-primary in
     let secondary = secondary_small d in
@@ -68,7 +68,7 @@ returns c =
     let whole : to_z w64 (of_z w64 c.args.weight.0) ≡ c.args.weight.0 = exact (search (exacts, weight) depth 30) tt in
     let part = whole ∙ (λ i. (c.requires i).0) in
     let other = rest ∙ (λ i. pos 100000 -ℤ (c.requires i).0) in
-    λ i. c.levels.ensures i
-    ∷ (c.levels-2.ensures ∙ (λ j. row "4.1" "Loss factors (L)" Blank (in_thousandths (ls j)) (in_thousandths (lp j)))) i
+    λ i. c.of_levels.ensures i
+    ∷ (c.of_levels-2.ensures ∙ (λ j. row "4.1" "Loss factors (L)" Blank (in_thousandths (ls j)) (in_thousandths (lp j)))) i
     ∷ (c.new.ensures ∙ (λ j. row "4.2" "S_A adjusted for losses" (Energy (kwh (sum j))) (Energy (es j)) (Energy (ep j)))) i
-    ∷ (c.levels-3.ensures ∙ (λ j. row "4.3" "Loss factor weights" Blank (in_thousandths (part j)) (in_thousandths (other j)))) i ∷ []
+    ∷ (c.of_levels-3.ensures ∙ (λ j. row "4.3" "Loss factor weights" Blank (in_thousandths (part j)) (in_thousandths (other j)))) i ∷ []

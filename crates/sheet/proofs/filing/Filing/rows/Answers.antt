@@ -1,12 +1,11 @@
 -- `Filing::rows` is the sheet's rows. Assumes nothing.
-use Rattle.std.proofs.Common.{◌≡◌, ◌∙◌, sym, ap, map, List, [], ◌∷◌, ℕ, get_or, to_z, of_z, w64}
+use Rattle.std.proofs.Common.{◌≡◌, ◌∙◌, sym, ap, map, List, [], ◌∷◌, ℕ, get_or}
 use Rattle.std.proofs.Math.ListN.{get_or-map}
-use Rattle.ints.specs.Exact.{exacts, exact}
 use Rattle.electric_rules.specs.Ranges.{period_yes}
 use Rattle.electric_settlement.specs.Shares.{shares_of, shares_or0_is}
 use Rattle.sheet_rows.specs.declared.cells.Cell.TheVariants.{Blank}
 use Rattle.sheet_rows.specs.Rows.{Row, shown}
-use Rattle.sheet.specs.Sheet.{sheet_rows}
+use Rattle.sheet.specs.Sheet.{sheet_by}
 use Rattle.sheet_rows.specs.declared.Row as code
 use Rattle.sheet.proofs.filing.Filing.rows.Goals as goal
 use Rattle.sheet.proofs.filing.Filing.rows.Goals.{After-shares_of-shares}
@@ -30,7 +29,7 @@ pub share_rows-requires : goal.share_rows-requires
 share_rows-requires c = shares_are (goal.at.share_rows-requires c).After-shares_of-shares
 
 pub returns : goal.returns
-unfolding sheet_rows
+unfolding sheet_by
 returns c =
     let a = c.cost_rows.ensures in
     let b = c.energy_rows.ensures in

@@ -1,6 +1,5 @@
 -- `Cell::put` stores the cell's text. Assumes nothing.
-use Rattle.std.proofs.Common.{refl, sym, ap, ◌∙◌, ◌≡◌, arith, List, [], ℕ, nat_abs, to_z, of_z, w64, length}
-use Rattle.amounts.specs.Text.{text_left}
+use Rattle.std.proofs.Common.{refl, sym, ap, arith, []}
 use Rattle.amounts.proofs.Texts.{stored}
 use Rattle.sheet_rows.specs.Cells.{cell_text}
 use Rattle.sheet_rows.proofs.CellTexts.{stored_as, percent_behind}
