@@ -17,7 +17,7 @@ use Rattle.sheet_rows.specs.declared.cells.Cell.{Cell}
 use Rattle.sheet_rows.specs.declared.cells.Cell.TheVariants.{Blank, Money, Factor, Energy, Proportion, Percentage}
 use Rattle.sheet_rows.specs.Cells.{thousandths_text, cell_text}
 use Rattle.sheet_rows.specs.Rows.{Row, set_left, set_right, row_text, rows_text}
-use Rattle.sheet.specs.Figures.{base_cost, first_interim, adjusted, adjusted_total, previous_factor}
+use Rattle.sheet.specs.Figures.{base_cost, first_interim, adjusted, previous_factor}
 use Rattle.sheet.specs.Sheet.{sheet_text, sheet_by}
 use Rattle.sheet.specs.Examples.{ExampleHolds}
 
@@ -87,5 +87,5 @@ lines_are (r ∷ rows) t =
     λ i. set_left 4 r.number ++ set_left 31 r.label ++ set_right 15 (total i) ++ set_right 15 (secondary i) ++ set_right 15 (primary i) ++ codes "\n" ++ lines_are rows (T_right (few r.primary) _ p) i
 
 pub example_holds : ExampleHolds
-unfolding sheet_text sheet_by set_left set_right sign_of width_in digits base_cost first_interim adjusted adjusted_total previous_factor variance_of shareable_of share_of weight_by weight_of secondary_share primary_share owed_by round nearest_of rounded_of tie_of kind_of factor_for month_after
+unfolding sheet_text sheet_by set_left set_right sign_of width_in digits base_cost first_interim adjusted previous_factor variance_of shareable_of share_of weight_by weight_of secondary_share primary_share owed_by round nearest_of rounded_of tie_of kind_of factor_for month_after
 example_holds = lines_are _ tt

@@ -1,5 +1,5 @@
 -- How large the figures of the sheet can be, for books in limits and for any rates that a sheet may state. Assumes nothing.
-use Rattle.std.specs.Prelude.{ℕ, ℤ, pos, ◌-ℤ◌, Option, Some, None}
+use Rattle.std.specs.Prelude.{ℕ, ℤ, pos, ◌+ℤ◌, ◌-ℤ◌, Option, Some, None}
 use Rattle.ints.specs.Order.{signed}
 use Rattle.ints.specs.Range.{Between, Within}
 use Rattle.ints.specs.Bound.{bounds, within_by}
@@ -14,7 +14,7 @@ use Rattle.electric_rules.specs.Calendar.{entering}
 use Rattle.electric_rules.specs.Settlement.{weight_by}
 use Rattle.electric_rules.specs.Ranges.{LevelWithin, PeriodWithin}
 use Rattle.electric_rules.specs.Sizes.{RatesWithin, weight_within}
-use Rattle.sheet.specs.Figures.{base_cost, first_interim, adjusted, adjusted_total, factor_beside, previous_factor}
+use Rattle.sheet.specs.Figures.{base_cost, first_interim, adjusted, factor_beside, previous_factor}
 
 pub adjusted_within : (sold loss : ℤ) → Between (pos 0) (pos 10000000000) sold → Between (pos 100000) (pos 199999) loss → Within 20000000000 (adjusted sold loss)
 unfolding adjusted
@@ -29,8 +29,7 @@ module _ (r : Rates) (p : Period) (rs : RatesWithin r) (ps : PeriodWithin p) whe
   unfolding first_interim
   interim_within = let b = base_within in within_by (search bounds depth 30) tt
 
-  pub total_within : Within 40000000000 (adjusted_total r p)
-  unfolding adjusted_total
+  pub total_within : Within 40000000000 (adjusted p.sales.secondary.0 r.secondary +ℤ adjusted p.sales.primary.0 r.primary)
   total_within =
       let s = adjusted_within p.sales.secondary.0 r.secondary ps.secondary rs.secondary in
       let t = adjusted_within p.sales.primary.0 r.primary ps.primary rs.primary in

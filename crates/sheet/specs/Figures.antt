@@ -23,10 +23,6 @@ first_interim r p = p.cost.0 -ℤ base_cost r p
 unfoldable pub adjusted : ℤ → ℤ → ℤ
 adjusted sold loss = round (sold *ℤ loss) (pos 100000)
 
--- and their sum
-unfoldable pub adjusted_total : Rates → Period → ℤ
-adjusted_total r p = adjusted p.sales.secondary.0 r.secondary +ℤ adjusted p.sales.primary.0 r.primary
-
 -- row 12: the factor of the run that stays when the one that a settlement files enters
 abbrev pub factor_beside : Option EnteringRun → Level → Points
 factor_beside (Some First) l = l.second.factor

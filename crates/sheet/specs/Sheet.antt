@@ -1,5 +1,5 @@
 -- The factor sheet of a settlement (02, a; source document 002, sheet 127), and what writing it gives.
-use Rattle.std.specs.Prelude.{List, [], ◌∷◌, ◌++◌, ℕ, ltb, length, pos, ◌-ℤ◌, Result}
+use Rattle.std.specs.Prelude.{List, [], ◌∷◌, ◌++◌, ℕ, ltb, length, pos, ◌+ℤ◌, ◌-ℤ◌, Result}
 use Rattle.refusals.specs.Writer.{written_by, buffer_left}
 use Rattle.refusals.specs.declared.Refusal.{Refusal}
 use Rattle.refusals.specs.declared.Refusal.TheVariants.{BufferTooShort}
@@ -16,7 +16,7 @@ use Rattle.electric_rules.specs.Refusals.{rows_of}
 use Rattle.sheet_rows.specs.declared.cells.Cell.TheVariants.{Blank, Money, Factor, Energy}
 use Rattle.sheet_rows.specs.Cells.{in_thousandths, as_percentage}
 use Rattle.sheet_rows.specs.Rows.{Row, row, rows_text}
-use Rattle.sheet.specs.Figures.{base_cost, first_interim, adjusted, adjusted_total, previous_factor, annual_factor}
+use Rattle.sheet.specs.Figures.{base_cost, first_interim, adjusted, previous_factor, annual_factor}
 use Rattle.refusals.specs.Rows as refusal
 
 -- the sheet, row by row: number, label, total, secondary, primary. By the rates, the book that the settlement finds, the settled book and the
@@ -24,17 +24,20 @@ use Rattle.refusals.specs.Rows as refusal
 unfoldable pub sheet_by : Rates → ElectricBook → ElectricBook → Sales → List Row
 sheet_by r found settled estimates =
     let p = found.period in
+    let adjusted_secondary = adjusted p.sales.secondary.0 r.secondary in
+    let adjusted_primary = adjusted p.sales.primary.0 r.primary in
     let filed_secondary = settled.secondary.pending in
     let filed_primary = settled.primary.pending in
     let previous_secondary = previous_factor found.month found.secondary in
     let previous_primary = previous_factor found.month found.primary in
+    let annual_secondary = annual_factor filed_secondary.factor previous_secondary in
+    let annual_primary = annual_factor filed_primary.factor previous_primary in
     row "1" "Total energy cost (F, P, and E)" (Money p.cost) Blank Blank
     ∷ row "2" "Base energy cost (B)" (Money (cents (base_cost r p))) Blank Blank
     ∷ row "3" "First Interim Total" (Money (cents (first_interim r p))) Blank Blank
     ∷ row "4" "Base energy (S_A) by voltage level" Blank (Energy p.sales.secondary) (Energy p.sales.primary)
     ∷ row "4.1" "Loss factors (L)" Blank (in_thousandths r.secondary) (in_thousandths r.primary)
-    ∷ row "4.2" "S_A adjusted for losses" (Energy (kwh (adjusted_total r p)))
-    (Energy (kwh (adjusted p.sales.secondary.0 r.secondary))) (Energy (kwh (adjusted p.sales.primary.0 r.primary)))
+    ∷ row "4.2" "S_A adjusted for losses" (Energy (kwh (adjusted_secondary +ℤ adjusted_primary))) (Energy (kwh adjusted_secondary)) (Energy (kwh adjusted_primary))
     ∷ row "4.3" "Loss factor weights" Blank (in_thousandths (weight_by r p)) (in_thousandths (pos 100000 -ℤ weight_by r p))
     ∷ row "5" "Customer Responsibility" (as_percentage r.percentage) Blank Blank
     ∷ row "6" "Second Interim Total by voltage level" (Money (cents (share_of r p))) (Money (cents (secondary_share r p))) (Money (cents (primary_share r p)))
@@ -44,8 +47,7 @@ sheet_by r found settled estimates =
     ∷ row "10" "Estimated recovery period sales kWh (S_R)" Blank (Energy estimates.secondary) (Energy estimates.primary)
     ∷ row "11" "Current period cost adjustment factor" Blank (Factor filed_secondary.factor) (Factor filed_primary.factor)
     ∷ row "12" "Previous period cost adjustment factor" Blank (Factor previous_secondary) (Factor previous_primary)
-    ∷ row "13" "Current annual cost adjustment factor" Blank
-    (Factor (annual_factor filed_secondary.factor previous_secondary)) (Factor (annual_factor filed_primary.factor previous_primary))
+    ∷ row "13" "Current annual cost adjustment factor" Blank (Factor annual_secondary) (Factor annual_primary)
     ∷ []
 
 -- the settle posting with these two estimates

@@ -8,7 +8,7 @@ use Rattle.electric_rules.specs.Sizes.{weight_within}
 use Rattle.sheet_rows.specs.declared.cells.Cell.TheVariants.{Blank, Energy}
 use Rattle.sheet_rows.specs.Cells.{in_thousandths}
 use Rattle.sheet_rows.specs.Rows.{row}
-use Rattle.sheet.specs.Figures.{adjusted, adjusted_total}
+use Rattle.sheet.specs.Figures.{adjusted}
 use Rattle.sheet.specs.Sheet.{sheet_by}
 use Rattle.sheet.proofs.Sizes.{adjusted_within}
 use Rattle.sheet.proofs.filing.Filing.energy_rows.Goals as goal
@@ -52,7 +52,7 @@ overflow_sub-weight c =
     let weight = weight_small (goal.at.overflow_sub-weight c).After-adjusted-primary in fits64 (search (bounds, weight) depth 30) tt
 
 pub returns : goal.returns
-unfolding sheet_by adjusted_total
+unfolding sheet_by
 returns c =
     let d = (goal.at.returns c).After-adjusted-primary in
     let secondary = secondary_small d in
