@@ -46,7 +46,7 @@ not_below (pos x) (pos y) h k = omega signed
 not_below (pos x) (negsuc y) h k = absurd (omega (signed, of_le k))
 not_below (negsuc x) y h k = absurd (omega (signed, of_le h))
 
-can_be_weighed : (sold loss : ℤ) → Between (pos 0) (pos 10000000000) sold → Between (pos 100000) (pos 199999) loss → weighable (sold *ℤ loss) ≡ true
+pub can_be_weighed : (sold loss : ℤ) → Between (pos 0) (pos 10000000000) sold → Between (pos 100000) (pos 199999) loss → weighable (sold *ℤ loss) ≡ true
 unfolding weighable
 can_be_weighed sold loss h k =
     let w : Within most_weighed (sold *ℤ loss) = within_by (search bounds depth 30) tt in

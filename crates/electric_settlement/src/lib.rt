@@ -11,6 +11,12 @@ use settling::Settling;
 
 mod settling;
 
+// Hundred-thousandths of a dollar, in which a base counts, to a cent.
+pub const TO_A_CENT: i64 = 1_000;
+
+// Parts of a cent in which the remainder counts; the weight of all sales; and what a loss factor is over.
+pub const PARTS: i64 = 100_000;
+
 // The secondary level's part of the customers' share, in hundred-thousandths.
 #[derive(Clone, Copy, Debug, PartialEq, Eq)]
 pub struct Weight(pub i64);

@@ -5,15 +5,9 @@ ghost use Rattle.amounts.specs.Amounts.{cents};
 ghost use Rattle.electric_rules.specs.Ranges.{PeriodWithin};
 ghost use Rattle.electric_rules.specs.Sizes.{RatesWithin};
 
-use crate::{Shares, Weight};
+use crate::{PARTS, Shares, TO_A_CENT, Weight};
 use amounts::Cents;
 use electric_rules::{Period, Rates, Remainder};
-
-// Hundred-thousandths of a dollar, in which a base counts, to a cent.
-const TO_A_CENT: i64 = 1_000;
-
-// Parts of a cent in which the remainder counts; and the weight of all sales.
-const PARTS: i64 = 100_000;
 
 #[derive(Clone, Copy)]
 pub(crate) struct Settling {

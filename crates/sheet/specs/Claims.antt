@@ -1,24 +1,46 @@
--- The claims of the factor sheet (02, a), proved in proofs/Fits.antt: it fills its page, and no cell of it is cut.
-use Rattle.std.specs.Prelude.{◌≡◌, List, [], ◌∷◌, ◌*◌, ◌≤◌, length, pos, None}
+-- The claims of the factor sheet (02, a): which run stays, that the sheet fills its page, and that no cell of it is cut. Proved in
+-- proofs/Fits.antt.
+use Rattle.std.specs.Prelude.{◌≡◌, List, [], ◌∷◌, ◌*◌, ◌≤◌, length, pos, ◌≤ℤ◌, None}
 use Rattle.ints.specs.Range.{Between}
 use Rattle.refusals.specs.Rows.{refusal_by}
 use Rattle.electric_rules.specs.declared.Rates.{Rates}
 use Rattle.electric_rules.specs.declared.Sales.{Sales}
+use Rattle.electric_rules.specs.declared.Level.{Level}
 use Rattle.electric_rules.specs.declared.ElectricBook.{ElectricBook}
 use Rattle.electric_rules.specs.Ranges.{BookWithin}
 use Rattle.electric_rules.specs.Refusals.{rows_of}
 use Rattle.electric_rules.specs.Sizes.{RatesWithin}
+use Rattle.sheet_rows.specs.declared.cells.Cell.{Cell}
+use Rattle.sheet_rows.specs.declared.cells.Cell.TheVariants.{Blank, Money, Factor, Energy, Proportion, Percentage}
 use Rattle.sheet_rows.specs.Cells.{cell_text}
 use Rattle.sheet_rows.specs.Rows.{Row, row_text}
+use Rattle.sheet.specs.Figures.{previous_factor}
 use Rattle.sheet.specs.Sheet.{sheet_by, settlement_of, sheet_of, sheet_text}
+
+-- run 2 stays when a settlement of November enters, run 1 when one of May does
+abbrev pub RunThatStays : Type 0
+RunThatStays = (l : Level) → (previous_factor 11 l ≡ l.second.factor) × (previous_factor 5 l ≡ l.first.factor)
+
+-- what is printed without a sign is not below 0
+abbrev pub NoSignLost : Cell → Type 0
+NoSignLost Blank = Unit
+NoSignLost (Money cents) = Unit
+NoSignLost (Factor points) = Unit
+NoSignLost (Energy energy) = pos 0 ≤ℤ energy.0
+NoSignLost (Proportion part) = Unit
+NoSignLost (Percentage percentage) = pos 0 ≤ℤ percentage.0
+
+pub record CellFits (c : Cell) : Type 0 where
+  pub short : length (cell_text c) ≤ 15
+  pub whole : NoSignLost c
 
 -- a row is 80 characters, of which the number and the cells are whole: only a label is cut
 pub record RowFits (r : Row) : Type 0 where
   pub characters : length (row_text r) ≡ 80
   pub number : length r.number ≤ 4
-  pub total : length (cell_text r.total) ≤ 15
-  pub secondary : length (cell_text r.secondary) ≤ 15
-  pub primary : length (cell_text r.primary) ≤ 15
+  pub total : CellFits r.total
+  pub secondary : CellFits r.secondary
+  pub primary : CellFits r.primary
 
 abbrev pub RowsFit : List Row → Type 0
 RowsFit [] = Unit

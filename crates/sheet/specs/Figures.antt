@@ -23,13 +23,13 @@ first_interim r p = p.cost.0 -ℤ base_cost r p
 unfoldable pub adjusted : ℤ → ℤ → ℤ
 adjusted sold loss = round (sold *ℤ loss) (pos 100000)
 
--- row 12: the factor of the run that stays when the one that a settlement files enters
+-- row 12: the factor of the run that stays when this one enters; none enters for a month that does not settle
 abbrev pub factor_beside : Option EnteringRun → Level → Points
 factor_beside (Some First) l = l.second.factor
 factor_beside (Some Second) l = l.first.factor
 factor_beside None l = points (pos 0)
 
--- it enters at the end of the third month after the one that settles
+-- what a month settles enters at the end of the third month after it
 unfoldable pub previous_factor : ℕ → Level → Points
 previous_factor month l = factor_beside (entering (month_after (month_after (month_after month)))) l
 

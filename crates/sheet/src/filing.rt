@@ -15,16 +15,10 @@ ghost use Rattle.sheet.specs.Sheet.{sheet_by};
 use amounts::{Cents, Points};
 use electric_refusals::calendar;
 use electric_rules::{ElectricBook, EnteringRun, Kwh, Level, Rates, Sales};
-use electric_settlement::{Shares, Weight};
+use electric_settlement::{PARTS, Shares, TO_A_CENT, Weight};
 use riders::months;
 use sheet_rows::Row;
 use sheet_rows::cells::{Cell, Percentage, Thousandths};
-
-// Hundred-thousandths of a dollar, in which a base counts, to a cent.
-const TO_A_CENT: i64 = 1_000;
-
-// What a loss factor is over, and the weight of all sales.
-const PARTS: i64 = 100_000;
 
 // The rates, the book that the settlement finds, the book after it, and its estimates.
 #[derive(Clone, Copy)]

@@ -2,7 +2,7 @@
 use Rattle.std.proofs.Common.{◌≡◌, ◌∙◌, [], ◌∷◌, to_z, of_z, w64, pos, ◌+ℤ◌, ◌-ℤ◌}
 use Rattle.ints.specs.Bound.{bounds, fits64}
 use Rattle.ints.specs.Exact.{exacts, exact}
-use Rattle.ints.specs.Range.{Between, Within, between_same}
+use Rattle.ints.specs.Range.{Between, between_same}
 use Rattle.electric_rules.specs.Book.{kwh}
 use Rattle.electric_rules.specs.Sizes.{weight_within}
 use Rattle.sheet_rows.specs.declared.cells.Cell.TheVariants.{Blank, Energy}
@@ -27,12 +27,12 @@ module _ (c : After-adjusted-primary) where
   primary_is : c.adjusted-primary.result ≡ kwh (adjusted c.args.self.found.period.sales.primary.0 c.args.self.rates.primary)
   primary_is = c.adjusted-primary.ensures ∙ (λ i. kwh (adjusted c.args.self.found.period.sales.primary.0 (primary_loss i)))
 
-  secondary_small : Within 20000000000 c.adjusted-secondary.result.0
+  secondary_small : Between (pos 0) (pos 20000000000) c.adjusted-secondary.result.0
   secondary_small =
       let s = c.args.self in
       between_same (λ i. (secondary_is i).0) (adjusted_within _ _ s.found_within.period.secondary s.rates_within.secondary)
 
-  primary_small : Within 20000000000 c.adjusted-primary.result.0
+  primary_small : Between (pos 0) (pos 20000000000) c.adjusted-primary.result.0
   primary_small =
       let s = c.args.self in
       between_same (λ i. (primary_is i).0) (adjusted_within _ _ s.found_within.period.primary s.rates_within.primary)
