@@ -5,13 +5,11 @@ use Rattle.ints.specs.Range.{Between, Within}
 use Rattle.ints.specs.Bound.{bounds, within_by}
 use Rattle.rounding.proofs.RoundLaws.{rounds, round_between}
 use Rattle.rounding.proofs.WeightLaws.{weighable_true}
-use Rattle.riders.specs.Months.{month_after}
 use Rattle.electric_rules.specs.declared.Rates.{Rates}
 use Rattle.electric_rules.specs.declared.Period.{Period}
 use Rattle.electric_rules.specs.declared.Level.{Level}
 use Rattle.electric_rules.specs.declared.EnteringRun.{EnteringRun}
 use Rattle.electric_rules.specs.declared.EnteringRun.TheVariants.{First, Second}
-use Rattle.electric_rules.specs.Calendar.{entering}
 use Rattle.electric_rules.specs.Settlement.{weight_by}
 use Rattle.electric_rules.specs.Ranges.{LevelWithin, PeriodWithin}
 use Rattle.electric_rules.specs.Sizes.{RatesWithin, can_be_weighed, weight_within}
@@ -51,4 +49,4 @@ beside_within (Some Second) l h = h.first.factor
 
 pub previous_within : (month : ℕ) (l : Level) → LevelWithin l → Within 99999 (previous_factor month l).0
 unfolding previous_factor
-previous_within month l h = beside_within (entering (month_after (month_after (month_after month)))) l h
+previous_within month l h = beside_within _ l h
