@@ -223,7 +223,7 @@ mod tests {
 
     #[test]
     fn an_import_is_kept_whole() {
-        let printed = "    use Rattle.amounts.proofs.text.put_decimal.Goals as goal\n";
+        let printed = "    use Rattle.amounts.proofs.text.put_whole.Goals as goal\n";
         assert_eq!(readable(printed), printed);
     }
 }

@@ -1,9 +1,9 @@
-//! docs/GLOSSARY.md names what there is: fields, calls, cases and definitions; and each letter of the paper has one row.
+//! docs/GLOSSARY.md names what there is: fields, calls, cases, definitions and the factor sheet's rows; and each letter of the paper has one row.
 
 use neapscroll_dev::definitions::declares;
 use neapscroll_dev::header::{self, c_name, calls, constants};
 use neapscroll_dev::markdown::{anchor, link, marks};
-use neapscroll_dev::rattle::{self, enum_cases, Structs};
+use neapscroll_dev::rattle::{self, definition, enum_cases, Structs};
 use neapscroll_dev::tables::{tables, tables_by, Table};
 use neapscroll_dev::text;
 use std::collections::BTreeSet;
@@ -184,5 +184,41 @@ fn a_term_has_one_row_and_the_sheets_names_lead_to_one() {
     let tables = page_tables();
     for row in &tables_by(&tables, "on the sheet")[0].rows {
         assert!(terms.contains(row[1].as_str()), "no row of {}", row[1]);
+    }
+}
+
+/// The numbers and labels of the factor sheet's rows, as the definition has them.
+fn sheet_heads() -> Vec<(String, String)> {
+    let sheet = definition("crates/sheet/specs/Sheet.antt", "sheet_by");
+    let rows = sheet.lines().filter(|line| line.contains("row \""));
+    let heads = rows.map(|row| {
+        let quoted: Vec<&str> = row.split('"').skip(1).step_by(2).collect();
+        (quoted[0].to_owned(), quoted[1].to_owned())
+    });
+    heads.collect()
+}
+
+#[test]
+fn the_rows_of_the_factor_sheet_are_those_of_the_definition() {
+    let tables = page_tables();
+    let rows = &tables_by(&tables, "row")[0].rows;
+    let heads = rows.iter().map(|row| (row[0].clone(), row[1].clone()));
+    assert_eq!(heads.collect::<Vec<_>>(), sheet_heads());
+}
+
+#[test]
+fn the_rows_of_the_factor_sheet_have_terms_and_their_letters() {
+    let terms = rows();
+    let tables = page_tables();
+    for row in &tables_by(&tables, "row")[0].rows {
+        let mut letters = Vec::new();
+        for here in row[2].split("; ") {
+            let term = terms.iter().find(|term| term.term == here);
+            let term = term.unwrap_or_else(|| panic!("row {}: no row of {here}", row[0]));
+            letters.extend(&term.letters);
+        }
+        let mut named = row[3].split(", ").filter(|letter| !letter.is_empty());
+        let is_known = named.all(|letter| letters.iter().any(|&known| known == letter));
+        assert!(is_known, "row {}: letters of {}", row[0], row[2]);
     }
 }

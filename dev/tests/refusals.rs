@@ -154,7 +154,25 @@ fn the_order_of_checking_is_that_of_the_refusal_tables() {
         let rows: Vec<u8> = rows(path, name).iter().map(|row| number_of(row)).collect();
         assert_eq!(order, &rows, "{done}: the page and {path}");
     }
-    assert_eq!(orders.len(), 6, "things done in {PAGE}");
+    assert_eq!(orders.len(), 7, "things done in {PAGE}");
+}
+
+/// The settlement is made by the call, so that its kind is known and has no stray number; the sheet's own table has the rest.
+#[test]
+fn a_factor_sheet_is_refused_as_its_settlement_and_then_for_its_page() {
+    let orders = orders();
+    let order = |done| {
+        let order = orders.iter().find(|order| order.0 == done);
+        order.unwrap_or_else(|| panic!("{PAGE} has no order of {done}"))
+    };
+    let mut expected = order("posting, electric").2.clone();
+    let of_other_postings = ["UnknownKind", "StrayNumber"].map(number_of);
+    expected.retain(|number| !of_other_postings.contains(number));
+    let path = "crates/sheet/specs/Sheet.antt";
+    let table = definition(path, "refusal_rows");
+    assert!(table.contains("= rows_of b (settlement_of estimates) ++ "));
+    expected.extend(rows(path, "refusal_rows").iter().map(|row| number_of(row)));
+    assert_eq!(order("writing a factor sheet").2, expected);
 }
 
 #[test]
@@ -219,8 +237,9 @@ fn lengths_are_those_of_the_header() {
     let calls = calls();
     let tables = page_tables();
     let rows = &tables_by(&tables, "written")[0].rows;
-    assert_eq!(rows.len(), told.len(), "lengths in {PAGE}");
-    for (row, (written, call, words)) in rows.iter().zip(told) {
+    let (sheet, others) = rows.split_last().expect("lengths");
+    assert_eq!(others.len(), told.len(), "lengths in {PAGE}");
+    for (row, (written, call, words)) in others.iter().zip(told) {
         assert_eq!(row[0], written);
         let comment = calls.iter().find(|(name, _)| name == call);
         let (_, comment) = comment.expect("the call");
@@ -242,4 +261,9 @@ fn lengths_are_those_of_the_header() {
     assert_eq!(rows[0][1], (2 + 3 * 8).to_string());
     assert_eq!(rows[1][1], (i64::MIN.to_string().len() + 1).to_string());
     assert_eq!(rows[2][1], (i32::MIN.to_string().len() + 1).to_string());
+    let shortest = format!("ltb (length page) {}", sheet[1]);
+    let table = definition("crates/sheet/specs/Sheet.antt", "refusal_rows");
+    assert_eq!(sheet[0], "a factor sheet");
+    assert!(table.contains(&shortest), "{table}");
+    assert_eq!(sheet[1], (16 * 81).to_string());
 }

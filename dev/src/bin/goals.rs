@@ -5,7 +5,7 @@ use std::process::ExitCode;
 
 const USAGE: &str = "usage: dev/goals CRATE [FUNCTION]
 Prints each goal that has no answer, or `?` for one, with the names of what is known there. With
-FUNCTION, as put_decimal or effects::bill, it checks that one alone, and what it calls in its crate.";
+FUNCTION, as put_whole or effects::bill, it checks that one alone, and what it calls in its crate.";
 
 fn main() -> ExitCode {
     let words = checks::words().unwrap_or_default();

@@ -1,4 +1,4 @@
-//! The list of pages in the README: each section of the paper has its page, and each page is listed.
+//! The lists of pages in the README: each section of the paper and each request has its page, and each page is listed.
 
 use crate::assert_none;
 use crate::pages::{Page, FOLDER};
@@ -22,7 +22,10 @@ const SECTIONS: [(&str, u64); 10] = [
 /// What has no section.
 const BESIDE: &str = "Beside the paper";
 
-/// The pages that the README's table lists, each with what it is called there.
+/// The requests, in the order in which they landed, each with the sum of its words.
+const REQUESTS: [(&str, u64); 1] = [("The factor sheet, printed", 0x87d5_0585_ac4f_bc66)];
+
+/// The pages that the README's tables list, each with what it is called there.
 fn listed() -> Vec<(String, String)> {
     let readme = text(&format!("{FOLDER}/README.md"));
     let rows = lines(&readme).filter(|(_, line)| line.starts_with("| ["));
@@ -36,11 +39,12 @@ fn listed() -> Vec<(String, String)> {
 }
 
 #[test]
-fn every_section_of_the_paper_has_its_page() {
+fn every_section_and_every_request_has_its_page() {
     let titles: Vec<String> = listed().into_iter().map(|(title, _)| title).collect();
     let sections = SECTIONS.into_iter().map(|(title, _)| title);
-    let sections: Vec<&str> = sections.chain([BESIDE]).collect();
-    assert_eq!(titles, sections);
+    let requests = REQUESTS.into_iter().map(|(title, _)| title);
+    let expected: Vec<&str> = sections.chain([BESIDE]).chain(requests).collect();
+    assert_eq!(titles, expected);
 }
 
 #[test]
@@ -62,7 +66,7 @@ fn every_page_is_listed_by_its_title() {
     assert_none(&flaws);
 }
 
-/// A page's headings of the second and third level, and what stands in fences: the section's text.
+/// A page's headings of the second and third level, and what stands in fences: the text of the section or the request.
 fn words(page: &str) -> Vec<&str> {
     let mut fenced = false;
     let words = page.lines().filter_map(|line| {
@@ -88,15 +92,16 @@ fn sum(words: &[&str]) -> u64 {
 }
 
 #[test]
-fn the_papers_words_are_as_they_were() {
+fn the_words_of_paper_and_requests_are_as_they_were() {
     let mut flaws = Vec::new();
     for (title, file) in listed() {
         let path = format!("{FOLDER}/{file}");
         let sum = sum(&words(&text(&path)));
-        let section = SECTIONS.iter().find(|(section, _)| *section == title);
-        if let Some((_, kept)) = section.filter(|(_, kept)| *kept != sum) {
+        let mut held = SECTIONS.iter().chain(&REQUESTS);
+        let held = held.find(|(held, _)| *held == title);
+        if let Some((_, kept)) = held.filter(|(_, kept)| *kept != sum) {
             flaws.push(format!(
-                "{path}: the sum of the paper's words is {sum:#x}, not {kept:#x}"
+                "{path}: the sum of its words is {sum:#x}, not {kept:#x}"
             ));
         }
     }
