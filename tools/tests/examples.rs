@@ -58,6 +58,26 @@ fn every_example_has_its_files_and_is_described() {
     }
 }
 
+/// Sheets are of settlements that an electric book took, so of no other journal, and as many as it filed factors.
+#[test]
+fn sheets_have_their_journal_and_are_described() {
+    let with_sheets = names("sheets");
+    assert!(!with_sheets.is_empty());
+    assert!(with_sheets.is_subset(&names("journal")), "{with_sheets:?}");
+    let described = text("README", "md");
+    for name in with_sheets {
+        assert!(
+            described.contains(&format!("| `{name}.sheets` |")),
+            "{name}"
+        );
+        let opened = bytes(&name, "journal").first().copied();
+        assert!(matches!(opened, Some(0 | 1)), "{name}: {opened:?}");
+        let sheets = text(&name, "sheets").split("\n\n").count();
+        let filed = text(&name, "printed").matches(" 4 filed ").count();
+        assert_eq!(sheets, filed, "{name}");
+    }
+}
+
 #[test]
 fn lines_are_their_journal() {
     for name in names("lines") {
@@ -228,6 +248,16 @@ fn the_proved_program_is_run_on_these_examples() {
         .into_iter()
         .map(|name| format!("{name}.journal"));
     assert_eq!(named, all.collect());
+}
+
+/// Likewise `crates/sheets` has a copy of one example, with its sheets.
+#[test]
+fn the_proved_program_of_sheets_is_run_on_an_example() {
+    let crate_folder = folder().join("../crates/sheets");
+    for (file, ending) in [("stdin", "journal"), ("stdout", "sheets")] {
+        let copy = fs::read(crate_folder.join(file)).unwrap();
+        assert!(copy == bytes("electric-years", ending), "{file}");
+    }
 }
 
 /// The README shows a year with each answer beside its line.
