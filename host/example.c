@@ -1,4 +1,4 @@
-/* A small billing host over the library: both books, a record, rounding, a journal. It prints what the library answers. */
+/* A small billing host over the library: both books, a factor sheet, a record, rounding, a journal. It prints the answers. */
 #include "neapscroll.h"
 
 #include <inttypes.h>
@@ -57,6 +57,20 @@ static neapscroll_electric_book electric_post(neapscroll_electric_book book, nea
     return reply.book;
 }
 
+/* Prints the factor sheet of a settlement that is still to be posted to the book. */
+static void print_sheet(neapscroll_electric_book book, neapscroll_posting settle)
+{
+    neapscroll_sales estimates = {settle.first, settle.second};
+    uint8_t page[NEAPSCROLL_SHEET_LENGTH];
+    neapscroll_written written = neapscroll_electric_sheet(book, estimates, page, sizeof page);
+    printf("sheet");
+    if (written.number != NEAPSCROLL_ACCEPTED) {
+        print_refusal(written.number);
+        return;
+    }
+    printf("\n%.*s", (int)written.length, (const char *)page);
+}
+
 static neapscroll_electric_book electric_month_ends(neapscroll_electric_book book, int count, int64_t rate)
 {
     neapscroll_posting month_end = {NEAPSCROLL_MONTH_END, rate, 0, 0};
@@ -111,9 +125,11 @@ static void electric(void)
     neapscroll_electric_book book = opened.book;
     book = electric_post(book, cost);
     book = electric_post(book, sales);
-    /* June settles nothing: the book stays as it was, and the same settlement is taken in November. */
+    /* June settles nothing and has no sheet: the book stays as it was, and the same settlement is taken in November. */
+    print_sheet(book, settle);
     book = electric_post(book, settle);
     book = electric_month_ends(book, 5, 60000);
+    print_sheet(book, settle);
     book = electric_post(book, settle);
     book = electric_month_ends(book, 4, 60000);
     book = electric_post(book, bill);

@@ -134,6 +134,11 @@ static void kinds(void)
     NUMBER(NEAPSCROLL_MPS);
 }
 
+static void lengths(void)
+{
+    NUMBER(NEAPSCROLL_SHEET_LENGTH);
+}
+
 int main(void)
 {
     amounts();
@@ -143,5 +148,6 @@ int main(void)
     answers();
     refusals();
     kinds();
+    lengths();
     return 0;
 }

@@ -66,6 +66,9 @@ enum neapscroll_level_number { NEAPSCROLL_SECONDARY = 0, NEAPSCROLL_PRIMARY = 1 
 
 enum neapscroll_division { NEAPSCROLL_L_AND_P = 0, NEAPSCROLL_MPS = 1 };
 
+/* Bytes of a factor sheet: 16 rows of 80 characters and a line feed. */
+enum neapscroll_length { NEAPSCROLL_SHEET_LENGTH = 1296 };
+
 /* Money in whole cents; a book holds -10^12 to 10^12. */
 typedef struct neapscroll_cents {
     int64_t cents;
@@ -220,6 +223,14 @@ neapscroll_electric_reply neapscroll_electric_open(uint8_t division);
 
 /* What a posting to an electric book gives. Refused (2, 3, 6, 7, 8, 10, 12): the book as it was. */
 neapscroll_electric_reply neapscroll_electric_post(neapscroll_electric_book book, neapscroll_posting posting);
+
+/*
+ * Writes the factor sheet that is filed with a settlement, before that is posted, to the front of a page: exactly
+ * NEAPSCROLL_SHEET_LENGTH bytes of text and no terminator; the page's bytes past them are untouched. The book is the one to
+ * be settled, which the call does not do; the estimates are those of the posting, in kWh, 1 to 10^10 each.
+ * Refused (6, 7, 8, 10, 12, 13), first as that posting is, then where the page is shorter than a sheet: the page as it was.
+ */
+neapscroll_written neapscroll_electric_sheet(neapscroll_electric_book book, neapscroll_sales estimates, uint8_t *page, size_t page_length);
 
 /*
  * The fresh steam book after four quarters' sales in mmBtu, oldest first, in January. Refused (7) outside 0 to 10^8: the

@@ -1,4 +1,4 @@
-//! Compiles a program of the folder `host` against the static library, and runs it.
+//! Compiles a program against the header and the static library, and runs it.
 
 use crate::commands::printed;
 use crate::files::repository_top;
@@ -36,22 +36,20 @@ pub const CPP: Language = Language {
 
 const WARNINGS: [&str; 4] = ["-Wall", "-Wextra", "-pedantic", "-Werror"];
 
-/// What the program prints, compiled without a warning as a program of the language.
+/// What the program prints, whose source has its path from the top, compiled without a warning as a program of the language.
 pub fn output_of(language: &Language, source: &str) -> String {
     let program = compiled(language, source);
     printed(Command::new(&program), &program.display().to_string())
 }
 
 fn compiled(language: &Language, source: &str) -> PathBuf {
-    let host = repository_top().join("host");
-    let name = format!("{source}.{}", language.variable);
+    let top = repository_top();
+    let name = format!("{}.{}", source.replace('/', "."), language.variable);
     let program = Path::new(env!("CARGO_TARGET_TMPDIR")).join(name);
     let mut command = Command::new(compiler(language));
     command.args([language.standard, "-O2"]).args(WARNINGS);
-    command.arg("-I").arg(&host);
-    command
-        .args(["-x", language.sources])
-        .arg(host.join(source));
+    command.arg("-I").arg(top.join("host"));
+    command.args(["-x", language.sources]).arg(top.join(source));
     command.args(["-x", "none"]).arg(ARCHIVE);
     command.arg("-o").arg(&program);
     printed(command, &format!("the {} compiler", language.name));

@@ -2,6 +2,7 @@
 
 use std::mem::offset_of;
 use twin::amounts::Run;
+use twin::electric::sheet::SHEET_LENGTH;
 use twin::electric::{self, ElectricBook, Level, Levels, Sales, L_AND_P, MPS};
 use twin::proved::{Cents, Points, Reading, Writing};
 use twin::records::{Posting, ADJUST, BILL, COST, MONTH_END, RECONCILE, SALES, SETTLE};
@@ -157,6 +158,7 @@ fn numbers(lines: &mut Vec<String>) {
     for (name, number) in REFUSALS.into_iter().chain(KINDS) {
         lines.push(format!("NEAPSCROLL_{name} {number}"));
     }
+    lines.push(format!("NEAPSCROLL_SHEET_LENGTH {SHEET_LENGTH}"));
 }
 
 /// A line a struct, a field and a named number, in the order of `host/layout.c`.

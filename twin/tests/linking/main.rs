@@ -10,6 +10,7 @@ mod excerpts;
 mod files;
 mod layouts;
 mod library;
+mod pages;
 mod structs;
 mod symbols;
 mod text;
@@ -19,20 +20,30 @@ use compilers::{output_of, C, CPP};
 
 #[test]
 fn a_c_host_prints_what_the_twin_gives() {
-    assert_eq!(output_of(&C, "example.c"), transcript::whole());
+    assert_eq!(output_of(&C, "host/example.c"), transcript::whole());
 }
 
 #[test]
 fn a_cpp_host_prints_what_the_twin_gives() {
-    assert_eq!(output_of(&CPP, "example.c"), transcript::whole());
+    assert_eq!(output_of(&CPP, "host/example.c"), transcript::whole());
 }
 
 #[test]
 fn c_lays_out_every_struct_as_the_twin() {
-    assert_eq!(output_of(&C, "layout.c"), layouts::all());
+    assert_eq!(output_of(&C, "host/layout.c"), layouts::all());
 }
 
 #[test]
 fn cpp_lays_out_every_struct_as_the_twin() {
-    assert_eq!(output_of(&CPP, "layout.c"), layouts::all());
+    assert_eq!(output_of(&CPP, "host/layout.c"), layouts::all());
+}
+
+#[test]
+fn c_lends_pages_of_any_length() {
+    assert_eq!(output_of(&C, pages::SOURCE), pages::whole());
+}
+
+#[test]
+fn cpp_lends_pages_of_any_length() {
+    assert_eq!(output_of(&CPP, pages::SOURCE), pages::whole());
 }

@@ -10,7 +10,7 @@ const POSTING: &str = "host";
 const POSTINGS: [&str; 2] = ["neapscroll_electric_post", "neapscroll_steam_post"];
 
 /// All that a module may leave to the program that it is linked to.
-const NEEDED: [&str; 2] = ["memcpy", "memmove"];
+const NEEDED: [&str; 3] = ["memcpy", "memmove", "memset"];
 
 /// A name in a module, with its letter in `nm`.
 #[derive(Debug)]

@@ -1,7 +1,7 @@
 //! What `host/example.c` has to print: the same postings, given to the twin.
 
 use crate::text::{cents, points, run};
-use twin::electric::{self, ElectricBook, Level};
+use twin::electric::{self, sheet, ElectricBook, Level, Sales};
 use twin::records::{self, Book, Posting, Read};
 use twin::records::{ADJUST, BILL, COST, MONTH_END, RECONCILE, SALES, SETTLE};
 use twin::rounding::{round_div, weight};
@@ -37,6 +37,15 @@ fn electric_answer(kind: u8, posted: &electric::Posted) -> String {
         ),
         (0, _) => "done".to_owned(),
         (number, _) => format!("refused {number}"),
+    }
+}
+
+/// The sheet of a settlement that is still to be posted.
+fn sheet_of(book: ElectricBook, settlement: Posting) -> String {
+    let [secondary, primary, _] = settlement.numbers;
+    match sheet::printed(book, Sales { secondary, primary }) {
+        Ok(sheet) => format!("sheet\n{}", String::from_utf8_lossy(&sheet)),
+        Err(number) => format!("sheet refused {number}\n"),
     }
 }
 
@@ -78,6 +87,9 @@ fn electric() -> String {
     let mut text = String::new();
     let mut book: ElectricBook = electric::open(0).book;
     for posting in electric_postings() {
+        if posting.kind == SETTLE {
+            text += &sheet_of(book, posting);
+        }
         let posted = electric::post(book, posting);
         let answer = electric_answer(posting.kind, &posted);
         text += &format!("electric {} {answer}\n", posting.kind);
@@ -207,7 +219,11 @@ pub fn whole() -> String {
 fn the_paper_says_the_same() {
     let text = whole();
     for line in [
+        "sheet refused 8",
         "electric 4 refused 8",
+        // V 201,000 over 1,000, and the shares
+        "3   First Interim Total                    2010.00                              ",
+        "6   Second Interim Total by voltage        1909.50        1155.13         754.37",
         "electric 4 filed 0.0009 0.0009",
         // 60,000 × 115,513 / 12,000,000 and 60,000 × 75,437 / 12,000,000
         "electric 5 interest 5.78 3.77",
