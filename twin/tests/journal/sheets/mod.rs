@@ -12,7 +12,7 @@ use twin::comparison::first_difference;
 use twin::journal::sheets;
 
 /// The program, which the twin's build makes.
-const PROGRAM: &str = env!("PROVED_SHEETS");
+pub const PROGRAM: &str = env!("PROVED_SHEETS");
 
 /// What the program and the twin print for the input, which the program is handed in pieces.
 fn printed_in_pieces(input: &[u8], piece: usize, origin: &str) -> String {
