@@ -1,4 +1,4 @@
-/* A small billing host over the library: both books, a factor sheet, a record, rounding, a journal. It prints the answers. */
+/* A small billing host over the library: both books, a sheet, a record, rounding, a journal. It prints the answers. */
 #include "neapscroll.h"
 
 #include <inttypes.h>

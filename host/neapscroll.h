@@ -226,9 +226,9 @@ neapscroll_electric_reply neapscroll_electric_post(neapscroll_electric_book book
 
 /*
  * Writes the factor sheet that is filed with a settlement, before that is posted, to the front of a page: exactly
- * NEAPSCROLL_SHEET_LENGTH bytes of text and no terminator; the page's bytes past them are untouched. The book is the one to
- * be settled, which the call does not do; the estimates are those of the posting, in kWh, 1 to 10^10 each.
- * Refused (6, 7, 8, 10, 12, 13), first as that posting is, then where the page is shorter than a sheet: the page as it was.
+ * NEAPSCROLL_SHEET_LENGTH bytes, no terminator; bytes of the page past them are untouched. The book is the one to be
+ * settled, which this does not do; the estimates are those of the posting, in kWh, 1 to 10^10 each.
+ * Refused (6, 7, 8, 10, 12, 13), first as the posting is, then where the page is too short: the page as it was.
  */
 neapscroll_written neapscroll_electric_sheet(neapscroll_electric_book book, neapscroll_sales estimates, uint8_t *page, size_t page_length);
 

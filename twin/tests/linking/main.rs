@@ -39,11 +39,11 @@ fn cpp_lays_out_every_struct_as_the_twin() {
 }
 
 #[test]
-fn c_lends_pages_of_any_length() {
+fn pages_lent_from_c_are_left_as_by_the_twin() {
     assert_eq!(output_of(&C, pages::SOURCE), pages::whole());
 }
 
 #[test]
-fn cpp_lends_pages_of_any_length() {
+fn pages_lent_from_cpp_are_left_as_by_the_twin() {
     assert_eq!(output_of(&CPP, pages::SOURCE), pages::whole());
 }
