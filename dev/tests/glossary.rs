@@ -211,14 +211,14 @@ fn the_rows_of_the_factor_sheet_have_terms_and_their_letters() {
     let terms = rows();
     let tables = page_tables();
     for row in &tables_by(&tables, "row")[0].rows {
-        let mut letters = Vec::new();
+        let mut letters = BTreeSet::new();
         for here in row[2].split("; ") {
             let term = terms.iter().find(|term| term.term == here);
             let term = term.unwrap_or_else(|| panic!("row {}: no row of {here}", row[0]));
-            letters.extend(&term.letters);
+            letters.extend(term.letters.iter().map(String::as_str));
         }
-        let mut named = row[3].split(", ").filter(|letter| !letter.is_empty());
-        let is_known = named.all(|letter| letters.iter().any(|&known| known == letter));
-        assert!(is_known, "row {}: letters of {}", row[0], row[2]);
+        let named = row[3].split(", ").filter(|letter| !letter.is_empty());
+        let named: BTreeSet<&str> = named.collect();
+        assert_eq!(named, letters, "row {}: letters of {}", row[0], row[2]);
     }
 }

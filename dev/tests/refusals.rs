@@ -237,7 +237,7 @@ fn lengths_are_those_of_the_header() {
     let calls = calls();
     let tables = page_tables();
     let rows = &tables_by(&tables, "written")[0].rows;
-    let (sheet, others) = rows.split_last().expect("lengths");
+    let (_, others) = rows.split_last().expect("lengths");
     assert_eq!(others.len(), told.len(), "lengths in {PAGE}");
     for (row, (written, call, words)) in others.iter().zip(told) {
         assert_eq!(row[0], written);
@@ -261,6 +261,12 @@ fn lengths_are_those_of_the_header() {
     assert_eq!(rows[0][1], (2 + 3 * 8).to_string());
     assert_eq!(rows[1][1], (i64::MIN.to_string().len() + 1).to_string());
     assert_eq!(rows[2][1], (i32::MIN.to_string().len() + 1).to_string());
+}
+
+#[test]
+fn the_length_of_a_factor_sheet_is_the_definitions() {
+    let tables = page_tables();
+    let sheet = tables_by(&tables, "written")[0].rows.last().expect("lengths");
     let shortest = format!("ltb (length page) {}", sheet[1]);
     let table = definition("crates/sheet/specs/Sheet.antt", "refusal_rows");
     assert_eq!(sheet[0], "a factor sheet");

@@ -1,4 +1,5 @@
-// The body that the journal programs share: reads an input, prints its journal, and says what could not be read or written.
+// The body that the journal programs share: reads an input, prints its journal, and says what could not be read or written. The program of
+// sheets reads its input by it too.
 #![tactic(auto)]
 
 ghost use Rattle.std.specs.Prelude.{◌≡◌, ◌≤◌, ◌<◌, IsOk, OnOk, length, take};

@@ -31,6 +31,9 @@ rates_within r e =
       primary = in_range_true _ _ _ l.1;
     }
 
+pub rates_yes : (r : Rates) → RatesWithin r → rates_in_range r ≡ true
+rates_yes r h = simp (in_range_yes _ _ _ h.percentage, in_range_yes _ _ _ h.base, in_range_yes _ _ _ h.secondary, in_range_yes _ _ _ h.primary)
+
 -- those of a division are such
 pub division_rates : (division : ℕ) → rates_in_range (rates_of division) ≡ true
 unfolding in_range

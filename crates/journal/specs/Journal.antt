@@ -86,7 +86,7 @@ steam_run bytes = steam_lines (steam_opening.handed_back (quarters_in bytes)) by
 abbrev pub journal_rows : List ℕ → List Row
 journal_rows bytes = row OutOfRange (ltb 65536 (length bytes)) ∷ row NoRecord (eqb (length bytes) 0) ∷ row OutOfRange (bad_opening bytes) ∷ []
 
--- the book that an input opens, or the refusal that is printed in its place
+-- the book that an input opens, whose lines `journal_of` prints, or the refusal that is printed in its place
 abbrev pub opened_book : List ℕ → FreshBook
 opened_book bytes =
     cond (opens_steam bytes) (opened.Steam (steam_opening.handed_back (quarters_in bytes))) (opened.Electric (electric_opening.handed_back (first_byte bytes)))

@@ -1,8 +1,7 @@
 // The opening of a journal: which book it names.
 ghost use Rattle.std.specs.Prelude.{◌≡◌, [], ◌∷◌, ltb, length, Ok, Err};
 ghost use Rattle.refusals.specs.Rows.{row, by_table};
-ghost use Rattle.journal.specs.Journal.{quarters_in};
-ghost use Rattle.journal.specs.Journal.{opened_by};
+ghost use Rattle.journal.specs.Journal.{quarters_in, opened_by};
 
 use electric_rules::ElectricBook;
 use refusals::Refusal;
@@ -31,6 +30,7 @@ fn quarters(input: &[u8]) -> Result<[Mmbtu; 4], Refusal>
     ])
 }
 
+// The fresh book that an input opens, or the refusal to print in its place.
 #[tactic(auto, using(crate::proofs::Openings::openings))]
 pub fn opened(input: &[u8]) -> Result<FreshBook, Refusal>
     ensures { result ≡ opened_by input.now }

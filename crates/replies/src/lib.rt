@@ -1,5 +1,5 @@
-// What two modules of a host's library hand out in place of a result, since C has none: a number, 0 where nothing was refused, and the
-// values beside it. No crate can cite a static library, so it stands below both.
+// What several modules of a host's library hand out in place of a result, since C has none: a number, 0 where nothing was refused, and the
+// values beside it. No crate can cite a static library, so it stands below them.
 #![tactic(auto)]
 
 ghost use Rattle.std.specs.Prelude.{◌≡◌};

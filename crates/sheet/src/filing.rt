@@ -1,10 +1,9 @@
 // A settlement as its sheet states it, row by row.
-ghost use Rattle.std.specs.Prelude.{◌≡◌, true, map, pos, take, drop};
+ghost use Rattle.std.specs.Prelude.{◌≡◌, map, pos, take, drop};
 ghost use Rattle.ints.specs.Range.{Between, Within};
 ghost use Rattle.amounts.specs.Amounts.{cents};
 ghost use Rattle.electric_rules.specs.Book.{kwh};
 ghost use Rattle.electric_rules.specs.Ranges.{BookWithin};
-ghost use Rattle.electric_rules.specs.Rates.{rates_in_range};
 ghost use Rattle.electric_rules.specs.Sizes.{RatesWithin};
 ghost use Rattle.electric_rules.specs.Settlement.{weight_by};
 ghost use Rattle.electric_settlement.specs.Shares.{as_weight, shares_of};
@@ -27,7 +26,6 @@ pub(crate) struct Filing {
     pub(crate) found: ElectricBook,
     pub(crate) settled: ElectricBook,
     pub(crate) estimates: Sales,
-    ghost rates_in_range: { rates_in_range rates ≡ true },
     ghost rates_within: { RatesWithin rates },
     ghost found_within: { BookWithin found },
     ghost settled_within: { BookWithin settled },
@@ -53,6 +51,7 @@ fn previous(month: u8, level: Level) -> Points
     }
 }
 
+// The factor at which bills are once the one that is filed enters.
 fn annual(current: Points, previous: Points) -> Points
     requires { Within 99999 current.0 × Within 99999 previous.0 }
     ensures { result ≡ annual_factor current previous }

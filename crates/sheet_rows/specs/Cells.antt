@@ -19,7 +19,7 @@ pub thousandths_text_is : (part : Thousandths) → thousandths_text part ≡ tex
 unfolding thousandths_text
 thousandths_text_is part = refl
 
--- money and factors in document 01's form; whole kWh, which are never below 0; proportions and percentages with a percent sign
+-- money and factors in document 01's form; kWh and percentages whole, by their size, since on a sheet none is below 0 (EverySheetFits)
 unfoldable pub cell_text : Cell → List ℕ
 cell_text Blank = []
 cell_text (Money cents) = cents_text cents

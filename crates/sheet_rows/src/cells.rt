@@ -51,6 +51,7 @@ fn put_size(number: i64, text: &mut [u8; 32]) -> usize
     text::put_whole(number.unsigned_abs(), text)
 }
 
+// Of each kind a function of its own, in which its number is known to fit 64 bits: of one that stands in an enum the check does not know it.
 fn put_energy(energy: Kwh, text: &mut [u8; 32]) -> usize
     ensures { (result ≡ length (decimal (nat_abs energy.0))) × (result ≤ 20) × (text.new ≡ text_left (decimal (nat_abs energy.0)) text.old) }
 {

@@ -18,11 +18,11 @@ pub const ROW_BYTES: usize = 81;
 // A row: its number and its label as the sheet spells them, and what stands in its cells.
 #[derive(Clone, Copy)]
 pub struct Row<'a> {
-    pub number: &'a [u8],
-    pub label: &'a [u8],
-    pub total: Cell,
-    pub secondary: Cell,
-    pub primary: Cell,
+    number: &'a [u8],
+    label: &'a [u8],
+    total: Cell,
+    secondary: Cell,
+    primary: Cell,
 }
 
 // Stores a text from a place on.
@@ -115,6 +115,7 @@ fn put_rows(rows: &[Row<'_>], page: &mut [u8], at: usize)
 pub fn write(rows: &[Row<'_>], page: &mut [u8]) -> Result<usize, Refusal>
     ensures { (result ≡ text_written (rows_text (map shown rows.now)) page.old) × (page.new ≡ text_left (rows_text (map shown rows.now)) page.old) }
 {
+    // By a quotient, since so many bytes may be more than a number here has room for.
     if page.len() / ROW_BYTES < rows.len() {
         return Err(Refusal::BufferTooShort);
     }

@@ -22,8 +22,8 @@ impl Printing {
         }
     }
 
-    // The blank line between two.
-    fn part(&mut self) -> io::Result<()> {
+    // Begins what is printed next: a blank line stands between two.
+    fn begin(&mut self) -> io::Result<()> {
         if self.begun {
             println!(self.output; "")?;
         }
@@ -41,7 +41,7 @@ impl Printing {
         if sheet::write(book, estimates, &mut page).is_err() {
             return Ok(());
         }
-        self.part()?;
+        self.begin()?;
         self.output.write_all(&page)
     }
 
@@ -49,7 +49,7 @@ impl Printing {
     fn print_records(&mut self, fresh: ElectricBook, input: &[u8]) -> io::Result<()> {
         let mut book = fresh;
         let mut place = 1;
-        // No input has as many records as it may have bytes.
+        // A range counts the records, since nothing here shows that a counter would fit; no input has as many as it may have bytes.
         for number in 1..journal::MOST_BYTES {
             if input.len() <= place {
                 return Ok(());
@@ -64,7 +64,7 @@ impl Printing {
                     place = found.place;
                 }
                 Err(refusal) => {
-                    self.part()?;
+                    self.begin()?;
                     return println!(self.output; "{number} 0 refused {}", refusal.number());
                 }
             }

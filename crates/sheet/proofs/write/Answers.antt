@@ -48,7 +48,6 @@ invariant_of-filing c =
     let shows = accepted b c.args.estimates none in
     let in_range : rates_in_range c.rates_of.result ≡ true = ap rates_in_range c.rates_of.ensures ∙ division_rates b.division in
     record {
-      rates_in_range = in_range;
       rates_within = rates_within c.rates_of.result in_range;
       found_within = shows.found;
       settled_within = subst BookWithin (sym (book_is d none)) shows.settled;

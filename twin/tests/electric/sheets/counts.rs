@@ -46,6 +46,9 @@ impl Counts {
     }
 
     fn count_sheet(&mut self, case: &Case, sheet: &str) {
+        let rows: Vec<&str> = sheet.split_inclusive('\n').collect();
+        assert_eq!(rows.len(), 16, "{sheet}");
+        assert!(rows.iter().all(|row| row.len() == 81), "{sheet}");
         let in_november = usize::from(case.book.month == 11);
         self.sheets[usize::from(case.book.division)][in_november] += 1;
         self.on_longer_pages += usize::from(case.page_length > SHEET);

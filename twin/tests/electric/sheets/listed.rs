@@ -53,14 +53,6 @@ fn document_01s_settlement_is_printed() {
 }
 
 #[test]
-fn every_row_has_eighty_characters_and_a_line_feed() {
-    let printed = listed(document_01_book(), ESTIMATES, SHEET).expect("a sheet");
-    let rows: Vec<&str> = printed.split_inclusive('\n').collect();
-    assert_eq!(rows.len(), 16);
-    assert!(rows.iter().all(|row| row.len() == 81 && row.is_ascii()));
-}
-
-#[test]
 fn credits_have_a_minus_below_a_dollar_too() {
     let mut credit = book(L_AND_P, NOVEMBER, 800_000, [300_000, 200_000]);
     credit.secondary = level([-90, -7], [0, -12]);
@@ -121,7 +113,7 @@ fn in_may_run_1_stays_and_in_november_run_2() {
 }
 
 #[test]
-fn a_level_without_sales_has_no_weight_and_no_share() {
+fn sales_of_the_primary_level_alone_have_all_the_weight() {
     let primary_alone = book(L_AND_P, NOVEMBER, 2_000, [0, 1_000]);
     let lines = [
         "1   Total energy cost (F, P, and E)          20.00",
@@ -142,6 +134,10 @@ fn a_level_without_sales_has_no_weight_and_no_share() {
         "13  Current annual cost adjustment                         0.0000         0.0010",
     ];
     expect(lines, primary_alone, [5_000, 2_000]);
+}
+
+#[test]
+fn sales_of_the_secondary_level_alone_have_all_the_weight() {
     let secondary_alone = book(L_AND_P, MAY, 2_000, [1_000, 0]);
     let lines = [
         "1   Total energy cost (F, P, and E)          20.00",

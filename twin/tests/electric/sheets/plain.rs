@@ -29,12 +29,7 @@ pub fn write(case: &Case, memory: &mut Memory, flaw: Flaw) -> Written {
     match posted.reply.number {
         0 => {}
         _ if short && flaw == Flaw::PageBeforeSettlement => return Written::Refused(13),
-        number => {
-            if flaw == Flaw::RefusedPageIsBlanked {
-                page.fill(b' ');
-            }
-            return Written::Refused(number.into());
-        }
+        number => return refuse_settlement(number, page, flaw),
     }
     let given = Given {
         before: book,
@@ -47,6 +42,13 @@ pub fn write(case: &Case, memory: &mut Memory, flaw: Flaw) -> Written {
         true => refuse(&text, page, flaw),
         false => fill(&text, page, flaw),
     }
+}
+
+fn refuse_settlement(number: u8, page: &mut [u8], flaw: Flaw) -> Written {
+    if flaw == Flaw::RefusedPageIsBlanked {
+        page.fill(b' ');
+    }
+    Written::Refused(number.into())
 }
 
 fn refuse(text: &str, page: &mut [u8], flaw: Flaw) -> Written {

@@ -38,14 +38,3 @@ fn every_flaw_is_told() {
     }
     assert_eq!(left, [], "not told");
 }
-
-#[test]
-fn no_flaw_is_told_where_there_is_none() {
-    let (mut random, origin) = seeded(12);
-    for _ in 0..10_000 {
-        let book = sound(&mut random);
-        let case = case(&mut random, book);
-        let told = tells(&case, Flaw::Nothing, &mut random);
-        assert!(!told, "{case:?}, {origin}");
-    }
-}

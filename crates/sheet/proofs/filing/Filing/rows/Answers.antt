@@ -2,6 +2,7 @@
 use Rattle.std.proofs.Common.{◌≡◌, ◌∙◌, sym, ap, map, List, [], ◌∷◌, ℕ, get_or}
 use Rattle.std.proofs.Math.ListN.{get_or-map}
 use Rattle.electric_rules.specs.Ranges.{period_yes}
+use Rattle.electric_rules.specs.Sizes.{rates_yes}
 use Rattle.electric_settlement.specs.Shares.{shares_of, shares_or0_is}
 use Rattle.sheet_rows.specs.declared.cells.Cell.TheVariants.{Blank}
 use Rattle.sheet_rows.specs.Rows.{Row, shown}
@@ -13,7 +14,7 @@ use Rattle.sheet.proofs.filing.Filing.rows.Goals.{After-shares_of-shares}
 shares_are : (c : After-shares_of-shares) → c.shares_of-shares.result ≡ shares_of c.args.self.rates c.args.self.found.period
 shares_are c =
     let s = c.args.self in
-    c.shares_of-shares.ensures ∙ shares_or0_is s.rates s.found.period s.rates_in_range (period_yes s.found.period s.found_within.period)
+    c.shares_of-shares.ensures ∙ shares_or0_is s.rates s.found.period (rates_yes s.rates s.rates_within) (period_yes s.found.period s.found_within.period)
 
 -- what is shown of a row is the row of what is shown, by its place
 abbrev none : code.Row
