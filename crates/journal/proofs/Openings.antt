@@ -14,14 +14,14 @@ use Rattle.std.proofs.lemmas.Bool.{ltb-true}
 use Rattle.refusals.specs.Rows.{row, refusal_by, by_table}
 use Rattle.refusals.specs.declared.Refusal.{Refusal}
 use Rattle.refusals.specs.declared.Refusal.TheVariants.{NoRecord, OutOfRange}
-use Rattle.refusals.proofs.TableLaws.{at_row, past_row, accepted, gives_asked, gives_refusal, gives_of, row_refuses, table_accepts, table_refuses, none_holds}
+use Rattle.refusals.proofs.TableLaws.{at_row, past_row, accepted, gives_asked, gives_refusal, row_refuses, table_accepts, table_refuses, none_holds}
 use lib.IntN.{pos}
 use Rattle.steam_rules.specs.declared.SteamBook.{SteamBook}
 use Rattle.steam_rules.specs.declared.Mmbtu.{Mmbtu}
 use Rattle.steam_rules.specs.Book.{mmbtu, four}
 use Rattle.electric_rules.specs.declared.ElectricBook.{ElectricBook}
 use Rattle.journal.specs.Lines.{opening_refused}
-use Rattle.journal.specs.Journal.{journal_rows, journal_of, opens_steam, bad_opening, bad_quarters, bad_division, first_byte, quarters_in, steam_lines, electric_lines, steam_run, electric_run, room_of, opened_book, opened_by}
+use Rattle.journal.specs.Journal.{journal_rows, journal_of, opens_steam, bad_opening, bad_quarters, bad_division, first_byte, quarters_in, printed, room_of, opened_book, opened_by}
 use Rattle.journal.specs.Steps.{Prints}
 use Rattle.journal.specs.declared.page.Page.{Page}
 use Rattle.journal.proofs.Storing.{prints_as}
@@ -45,23 +45,9 @@ room_within n h = simp (le-ltb 65536 n h)
 
 -- ---- what is printed, by what is opened
 
--- the lines of the records behind the opening, or what is printed for none
-abbrev printed : List ℕ → Result FreshBook Refusal → List ℕ
-printed bytes (Ok (Electric fresh)) = electric_lines fresh bytes 1
-printed bytes (Ok (Steam fresh)) = steam_lines fresh bytes 33
-printed bytes (Err refusal) = opening_refused refusal
-
 journal_opened : (bytes : List ℕ) {opened : Result FreshBook Refusal} → opened ≡ opened_by bytes → printed bytes opened ≡ journal_of bytes
-unfolding journal_of opened_by
-journal_opened bytes e =
-    ap (printed bytes) e ∙ gives_of (journal_rows bytes) (Ok (opened_book bytes)) Err (printed bytes)
-    ∙ ap (λ (lines : List ℕ). by_table (journal_rows bytes) lines opening_refused) (by_byte (opens_steam bytes))
-  where
-    by_byte :
-        (t : Bool) → printed bytes (Ok (cond t (Steam (steam.handed_back (quarters_in bytes))) (Electric (electric.handed_back (first_byte bytes)))))
-        ≡ cond t (steam_run bytes) (electric_run bytes)
-    by_byte true = refl
-    by_byte false = refl
+unfolding journal_of
+journal_opened bytes e = ap (printed bytes) e
 
 -- ---- the quarters behind byte 02
 

@@ -73,20 +73,13 @@ bad_division bytes = is_err (electric_opening.opened_of (first_byte bytes))
 abbrev pub bad_opening : List ℕ → Bool
 bad_opening bytes = cond (opens_steam bytes) (bad_quarters bytes) (bad_division bytes)
 
--- the lines of the records behind the opening
-abbrev pub electric_run : List ℕ → List ℕ
-electric_run bytes = electric_lines (electric_opening.handed_back (first_byte bytes)) bytes 1
-
-abbrev pub steam_run : List ℕ → List ℕ
-steam_run bytes = steam_lines (steam_opening.handed_back (quarters_in bytes)) bytes 33
-
 -- ---- the whole
 
 -- at most 65,536 bytes; a longer input or a bad opening prints `refused 7`, an empty one `refused 1`
 abbrev pub journal_rows : List ℕ → List Row
 journal_rows bytes = row OutOfRange (ltb 65536 (length bytes)) ∷ row NoRecord (eqb (length bytes) 0) ∷ row OutOfRange (bad_opening bytes) ∷ []
 
--- the book that an input opens, whose lines `journal_of` prints, or the refusal that is printed in its place
+-- the fresh book that is opened, or the refusal to print in its place
 abbrev pub opened_book : List ℕ → FreshBook
 opened_book bytes =
     cond (opens_steam bytes) (opened.Steam (steam_opening.handed_back (quarters_in bytes))) (opened.Electric (electric_opening.handed_back (first_byte bytes)))
@@ -94,8 +87,14 @@ opened_book bytes =
 unfoldable pub opened_by : List ℕ → Result FreshBook Refusal
 opened_by bytes = by_table (journal_rows bytes) (Ok (opened_book bytes)) Err
 
+-- the lines of the records behind the opening, or of the refusal
+abbrev pub printed : List ℕ → Result FreshBook Refusal → List ℕ
+printed bytes (Ok (opened.Electric fresh)) = electric_lines fresh bytes 1
+printed bytes (Ok (opened.Steam fresh)) = steam_lines fresh bytes 33
+printed bytes (Err refusal) = opening_refused refusal
+
 unfoldable pub journal_of : List ℕ → List ℕ
-journal_of bytes = by_table (journal_rows bytes) (cond (opens_steam bytes) (steam_run bytes) (electric_run bytes)) opening_refused
+journal_of bytes = printed bytes (opened_by bytes)
 
 -- room enough for what is printed for so many bytes: a record has two bytes at least, and its line 82 at most
 unfoldable pub room_of : ℕ → ℕ
