@@ -55,10 +55,12 @@ module _ (u : ℤ) (l : Level) where
     second_within = within_by (search (bounds, rounds) depth 30) tt
 
 -- the balance that bears interest, and a month's interest on it
-pub bearing_within : (l : Level) → LevelWithin l → Within 5000000000000 (bearing_of l)
+pub bearing_within : (provisional : ℤ) (l : Level) → Within 9000000000000 provisional → LevelWithin l → Within 14000000000000 (bearing_of provisional l)
 unfolding bearing_of
-bearing_within l ls = within_by (search bounds depth 30) tt
+bearing_within provisional l ps ls = within_by (search bounds depth 30) tt
 
-pub interest_within : (rate : ℤ) (l : Level) → Between (pos 0) (pos 200000) rate → LevelWithin l → Within 100000000000 (interest_on rate (bearing_of l))
+pub interest_within :
+    (rate provisional : ℤ) (l : Level) → Between (pos 0) (pos 200000) rate → Within 9000000000000 provisional → LevelWithin l →
+    Within 300000000000 (interest_on rate (bearing_of provisional l))
 unfolding interest_on
-interest_within rate l rs ls = let balance = bearing_within l ls in within_by (search (bounds, rounds) depth 30) tt
+interest_within rate provisional l rs ps ls = let balance = bearing_within provisional l ps ls in within_by (search (bounds, rounds) depth 30) tt

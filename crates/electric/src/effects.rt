@@ -8,6 +8,7 @@ ghost use Rattle.electric_rules.specs.Limits.{in_limits};
 ghost use Rattle.electric.specs.Taken.{TakenAt};
 
 use crate::levels::{self, LevelInLimits, MonthEnd};
+use crate::sharing;
 use amounts::{Cents, Stored};
 use electric_rules::{ElectricBook, Kwh, Period, Sales};
 use postings::kinds::Kind;
@@ -76,8 +77,9 @@ fn month_end(book: &mut ElectricBook, posting: Posting) -> Result<Answer, Refusa
     let on_primary = LevelInLimits {
         level: book.primary,
     };
-    let (secondary_interest, secondary) = on_secondary.ended(month_end)?;
-    let (primary_interest, primary) = on_primary.ended(month_end)?;
+    let (secondary_share, primary_share) = sharing::provisional_shares(book);
+    let (secondary_interest, secondary) = on_secondary.ended(month_end, secondary_share)?;
+    let (primary_interest, primary) = on_primary.ended(month_end, primary_share)?;
     book.month = riders::months::month_after(book.month);
     book.settled = false;
     book.secondary = secondary;
@@ -89,8 +91,7 @@ fn settle(book: &mut ElectricBook, posting: Posting) -> Result<Answer, Refusal>
     requires { (in_limits book.old ≡ true) × Ranged Book.Electric Kind.Settle posting × (settles book.old.month ≡ true) }
     ensures { TakenAt Kind.Settle book.old posting result book.new }
 {
-    let rates = electric_settlement::rates_of(book.division);
-    let shares = electric_settlement::shares_of(rates, book.period);
+    let shares = sharing::shares_of(book);
     let on_secondary = LevelInLimits {
         level: book.secondary,
     };

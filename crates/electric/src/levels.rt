@@ -13,6 +13,7 @@ ghost use Rattle.riders.specs.Runs.{due_less, filed_run, run_in_limits, RunWithi
 ghost use Rattle.electric_rules.specs.Levels.{level_line, billed_level, adjusted_level, filed_level, owed_by, bearing_of, interest_on, accrued_level, handed_over};
 ghost use Rattle.electric_rules.specs.Limits.{level_in_limits};
 ghost use Rattle.electric_rules.specs.Ranges.{LevelWithin};
+ghost use Rattle.electric.specs.Taken.{ended_at};
 
 use amounts::{Cents, Points, Stored};
 use electric_rules::{EnteringRun, Kwh, Level};
@@ -83,21 +84,23 @@ impl LevelInLimits {
     }
 
     // A month's interest on the balance that bears it.
-    fn interest(self, month_end: MonthEnd) -> Cents
-        ensures { result ≡ cents (interest_on month_end.posting.first (bearing_of self.level)) }
+    fn interest(self, month_end: MonthEnd, provisional: Cents) -> Cents
+        requires { Within 9000000000000 provisional.0 }
+        ensures { result ≡ cents (interest_on month_end.posting.first (bearing_of provisional.0 self.level)) }
     {
         let level = self.level;
         let balance = level.carried.0
             + level.pending.due.0
             + level.first.due.0
-            + level.second.due.0;
+            + level.second.due.0
+            + provisional.0;
         Cents(rounding::round_div(month_end.posting.first * balance, MONTHLY))
     }
 
     // The level at a month's end: that interest accrued, then the handover.
     fn after(self, month_end: MonthEnd, interest: Cents) -> Level
-        requires { interest ≡ cents (interest_on month_end.posting.first (bearing_of self.level)) }
-        ensures { result ≡ handed_over month_end.entering (accrued_level month_end.posting.first self.level) }
+        requires { Within 300000000000 interest.0 }
+        ensures { result ≡ handed_over month_end.entering (accrued_level interest.0 self.level) }
     {
         let accrued = Level {
             interest: Cents(self.level.interest.0 + interest.0),
@@ -107,10 +110,15 @@ impl LevelInLimits {
     }
 
     // A month's interest, and the level at the month's end; or refusal 12. Its runs lay within their limits before.
-    pub(crate) fn ended(self, month_end: MonthEnd) -> Result<(Cents, Level), Refusal>
-        ensures { result ≡ stored_or_12 (level_in_limits (handed_over month_end.entering (accrued_level month_end.posting.first self.level))) (cents (interest_on month_end.posting.first (bearing_of self.level)), handed_over month_end.entering (accrued_level month_end.posting.first self.level)) }
+    pub(crate) fn ended(
+        self,
+        month_end: MonthEnd,
+        provisional: Cents,
+    ) -> Result<(Cents, Level), Refusal>
+        requires { Within 9000000000000 provisional.0 }
+        ensures { result ≡ ended_at month_end.entering (interest_on month_end.posting.first (bearing_of provisional.0 self.level)) self.level }
     {
-        let interest = self.interest(month_end);
+        let interest = self.interest(month_end, provisional);
         let next = self.after(month_end, interest);
         next.carried.stored()?;
         next.interest.stored()?;

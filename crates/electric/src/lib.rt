@@ -12,6 +12,7 @@ use refusals::Refusal;
 
 mod effects;
 mod levels;
+mod sharing;
 
 // Takes a posting: its answer, with the next book in the place of this one; or its refusal, with the book as it was. In place, since
 // each move of a book that a call hands back is a copy.

@@ -69,10 +69,10 @@ module _ (l : Level) (within : level_in_limits l ≡ true) where
   filed_decides filed = simp (runs.1, runs.2, and-true)
 
   -- a month's end: what is carried and accrued, since runs move as they are
-  pub ended_decides : (run : Option EnteringRun) (rate : ℤ) → let next = handed_over run (accrued_level rate l) in level_in_limits next ≡ cents_in_limits next.carried && cents_in_limits next.interest
-  ended_decides None rate = runs_kept (accrued_level rate l) runs.0 runs.1 runs.2
-  ended_decides (Some First) rate = runs_kept (into_first (accrued_level rate l)) no_run_in_limits runs.0 runs.2
-  ended_decides (Some Second) rate = runs_kept (into_second (accrued_level rate l)) no_run_in_limits runs.1 runs.0
+  pub ended_decides : (run : Option EnteringRun) (interest : ℤ) → let next = handed_over run (accrued_level interest l) in level_in_limits next ≡ cents_in_limits next.carried && cents_in_limits next.interest
+  ended_decides None interest = runs_kept (accrued_level interest l) runs.0 runs.1 runs.2
+  ended_decides (Some First) interest = runs_kept (into_first (accrued_level interest l)) no_run_in_limits runs.0 runs.2
+  ended_decides (Some Second) interest = runs_kept (into_second (accrued_level interest l)) no_run_in_limits runs.1 runs.0
 
 -- ---- the book
 

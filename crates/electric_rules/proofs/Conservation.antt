@@ -1,6 +1,6 @@
 -- No cent is lost: what book and tally share is so of a fresh book, each posting keeps it, and so does a list of them; the claim follows
 -- from it. Assumes nothing.
-use mathlib.Core.Path.{◌≡◌, refl, sym, ap, subst}
+use mathlib.Core.Path.{◌≡◌, refl, sym, ap, subst, ◌∙◌}
 use mathlib.Core.Bool.{Bool, true, false, cond, not, true≢false}
 use Prim.Native.Nat.{ℕ}
 use lib.Dec.{leb, eqb}
@@ -32,12 +32,12 @@ use Rattle.electric_rules.specs.declared.ElectricBook.{ElectricBook}
 use Rattle.electric_rules.specs.Book.{sales_of, period_of, fresh_level, fresh_of, opening_rows, opened_of}
 use Rattle.electric_rules.specs.Calendar.{settles, entering}
 use Rattle.electric_rules.specs.Rates.{rates_lp, rates_mps, rates_of}
-use Rattle.electric_rules.specs.Settlement.{remainder_after, secondary_share, primary_share}
+use Rattle.electric_rules.specs.Settlement.{remainder_after, secondary_share, primary_share, no_kwh, provisional_share}
 use Rattle.electric_rules.specs.Levels.{held_by}
 use Rattle.electric_rules.specs.Next.{with_period, with_levels, is_secondary, cost_posted, sales_posted, next_at, answer_at}
 use Rattle.electric_rules.specs.Limits.{dates_in_limits, in_limits}
 use Rattle.electric_rules.specs.Refusals.{rules}
-use Rattle.electric_rules.specs.Tally.{LevelTally, Tally, fresh_level_tally, fresh_tally, with_period_tally, with_level_tallies, cost_counted, sales_counted, line_counted, share_counted, settle_counted, interest_counted, adjustment_counted, count_at, count_of}
+use Rattle.electric_rules.specs.Tally.{LevelTally, Tally, fresh_level_tally, fresh_tally, with_period_tally, with_level_tallies, cost_counted, sales_counted, line_counted, share_counted, settle_counted, interest_counted, month_counted, adjustment_counted, count_at, count_of}
 use Rattle.electric_rules.specs.Claim.{Balances, NoCentLost}
 use Rattle.riders.specs.Waiting as waiting
 use Rattle.riders.specs.Sharing as sharing
@@ -53,6 +53,8 @@ record Kept (rates : Rates) (b : ElectricBook) (t : Tally) : Type 0 where
   secondary : LevelKept (clear_in b) b.secondary t.secondary
   primary : LevelKept (clear_in b) b.primary t.primary
   shares : Shared rates t
+  -- a settled month has no kWh, which is all that the tally, with no settled month of its own, needs to know of it
+  unsold : b.settled ≡ true → no_kwh t.period ≡ true
 
 -- ---- an accepted posting, by kind
 
@@ -63,25 +65,26 @@ module _ (rates : Rates) (b : ElectricBook) (t : Tally) (p : Posting) (k : Kept 
 
   -- cost and sales change the period alone, and not its remainder
   period_keeps :
-      (cost_after : Period → ℤ) (sales_after : Period → OpenSales) →
+      (cost_after : Period → ℤ) (sales_after : Period → OpenSales) → (b.settled ≡ true → no_kwh (period_of (cost_after t.period) (sales_after t.period) t.period.remainder.0) ≡ true) →
       Kept rates (with_period b (period_of (cost_after b.period) (sales_after b.period) b.period.remainder.0))
       (with_period_tally t (period_of (cost_after t.period) (sales_after t.period) t.period.remainder.0))
-  period_keeps cost_after sales_after =
+  period_keeps cost_after sales_after unsold =
       record {
         division = k.division;
         period = ap (λ (q : Period). period_of (cost_after q) (sales_after q) q.remainder.0) k.period;
         secondary = k.secondary;
         primary = k.primary;
         shares = k.shares;
+        unsold = unsold;
       }
 
   cost_keeps : Keeps Cost
   unfolding cost_counted
-  cost_keeps = period_keeps (λ q. (cost_posted (with_period b q) p).period.cost.0) (λ q. q.sales)
+  cost_keeps = period_keeps (λ q. (cost_posted (with_period b q) p).period.cost.0) (λ q. q.sales) k.unsold
 
-  sales_keeps : Keeps Sales
+  sales_keeps : b.settled ≡ false → Keeps Sales
   unfolding sales_counted
-  sales_keeps = period_keeps (λ q. q.cost.0) (λ q. (sales_posted (with_period b q) p).period.sales)
+  sales_keeps allowed = period_keeps (λ q. q.cost.0) (λ q. (sales_posted (with_period b q) p).period.sales) (λ settled. absurd (true≢false (sym settled ∙ allowed)))
 
   -- bill and adjust change the level that they name alone, and not its shares
   levels_keep :
@@ -94,6 +97,7 @@ module _ (rates : Rates) (b : ElectricBook) (t : Tally) (p : Posting) (k : Kept 
         secondary = secondary;
         primary = primary;
         shares = subst (λ (shares : ℤ). sharing.Shared 50000 rates.percentage shares t.period.remainder.0 t.variances) (λ i. sym e i +ℤ sym f i) k.shares;
+        unsold = k.unsold;
       }
 
   one_level :
@@ -125,26 +129,37 @@ module _ (rates : Rates) (b : ElectricBook) (t : Tally) (p : Posting) (k : Kept 
         secondary = settled_keeps b.secondary t.secondary k.secondary _ _ p.first (λ i. secondary_share (k.division i) (k.period i)) nothing;
         primary = settled_keeps b.primary t.primary k.primary _ _ p.second (λ i. primary_share (k.division i) (k.period i)) nothing;
         shares = settled_shared rates t k.shares;
+        unsold = λ settled. refl;
       }
 
   dates : not (in_limits b) ≡ false → month_in_limits b.month (settles b.month) b.settled ≡ true
   dates e = (both (leb b.division 1) _ (both (dates_in_limits b) _ (not-false _ e)).0).1
 
+  -- in a settled month the book has no provisional share, and the tally, which does not know, no kWh
+  same_provisional : (share : Rates → Period → ℤ) → provisional_share share (rates_of b.division) b.settled b.period ≡ provisional_share share rates false t.period
+  unfolding provisional_share
+  same_provisional share = (λ i. provisional_share share (k.division i) b.settled (k.period i)) ∙ go b.settled k.unsold
+    where
+      go : (settled : Bool) → (settled ≡ true → no_kwh t.period ≡ true) → provisional_share share rates settled t.period ≡ provisional_share share rates false t.period
+      go true unsold = ap (λ (none : Bool). cond none (pos 0) (share rates t.period)) (sym (unsold refl))
+      go false unsold = refl
+
   month_keeps : not (in_limits b) ≡ false → forbidden MonthEnd (settles b.month) b.settled ≡ false → Keeps MonthEnd
-  unfolding interest_counted
+  unfolding month_counted interest_counted
   month_keeps limits allowed =
       let turn = waiting.month_turns settles entering months_turn b.month b.settled (dates limits) allowed in
       record {
         division = k.division;
         period = k.period;
-        secondary = ended_keeps b.secondary t.secondary k.secondary p.first _ (entering b.month) turn;
-        primary = ended_keeps b.primary t.primary k.primary p.first _ (entering b.month) turn;
+        secondary = ended_keeps b.secondary t.secondary k.secondary p.first (same_provisional secondary_share) _ (entering b.month) turn;
+        primary = ended_keeps b.primary t.primary k.primary p.first (same_provisional primary_share) _ (entering b.month) turn;
         shares = k.shares;
+        unsold = λ settled. absurd (true≢false (sym settled));
       }
 
   kind_keeps : (kind : Kind) → is_none (table_of Electric kind) ≡ false → not (in_limits b) ≡ false → forbidden kind (settles b.month) b.settled ≡ false → Keeps kind
   kind_keeps Cost known limits allowed = cost_keeps
-  kind_keeps Sales known limits allowed = sales_keeps
+  kind_keeps Sales known limits allowed = sales_keeps allowed
   kind_keeps Bill known limits allowed = bill_keeps
   kind_keeps Settle known limits allowed = settle_keeps allowed
   kind_keeps MonthEnd known limits allowed = month_keeps limits allowed
@@ -173,6 +188,7 @@ fresh_kept division =
       secondary = level;
       primary = level;
       shares = sharing.none_shared 50000 (rates_of division).percentage;
+      unsold = λ settled. refl;
     }
 
 opened_kept : (division : ℕ) (fresh : ElectricBook) → opened_of division ≡ Ok fresh → Kept (rates_of division) fresh fresh_tally

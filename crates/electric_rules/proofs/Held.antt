@@ -12,7 +12,7 @@ use Rattle.riders.specs.Runs.{no_run}
 use Rattle.electric_rules.specs.declared.EnteringRun.{EnteringRun}
 use Rattle.electric_rules.specs.declared.EnteringRun.TheVariants.{First, Second}
 use Rattle.electric_rules.specs.declared.Level.{Level}
-use Rattle.electric_rules.specs.Levels.{held_by, factors_of, level_line, billed_level, adjusted_level, owed_by, settled_level, bearing_of, interest_on, accrued_level, handed_over}
+use Rattle.electric_rules.specs.Levels.{held_by, factors_of, level_line, billed_level, adjusted_level, owed_by, settled_level, bearing_of, accrued_level, handed_over}
 
 abbrev five_and : ℕ → ℕ
 five_and n = suc (suc (suc (suc (suc n))))
@@ -42,14 +42,14 @@ module _ (l : Level) where
       eq_by _ _ (neg_ℤ (pos 1)) _ _
       (solve_cents 1 (λ c i q d1 d2 x. # 0 :+ # 0 :+ (x :+ c :+ i) :+ d1 :+ d2 :- (c :+ i :+ q :+ d1 :+ d2 :+ x) := neg (# 1) :* (q :- # 0)) tt share)
 
-  pub held_accrued : (rate : ℤ) → held_by (accrued_level rate l) ≡ held_by l +ℤ interest_on rate (bearing_of l)
+  pub held_accrued : (interest : ℤ) → held_by (accrued_level interest l) ≡ held_by l +ℤ interest
   unfolding held_by
-  held_accrued rate = solve_cents 1 (λ c i q d1 d2 x. c :+ (i :+ x) :+ q :+ d1 :+ d2 := c :+ i :+ q :+ d1 :+ d2 :+ x) tt (interest_on rate (bearing_of l))
+  held_accrued = solve_cents 1 (λ c i q d1 d2 x. c :+ (i :+ x) :+ q :+ d1 :+ d2 := c :+ i :+ q :+ d1 :+ d2 :+ x) tt
 
-  -- all but accrued interest bears interest
-  pub bearing_held : bearing_of l ≡ held_by l -ℤ l.interest.0
+  -- all that is held but accrued interest bears interest, and so does the provisional share
+  pub bearing_held : (provisional : ℤ) → bearing_of provisional l ≡ held_by l -ℤ l.interest.0 +ℤ provisional
   unfolding held_by bearing_of
-  bearing_held = solve_cents 0 (λ c i q d1 d2. c :+ q :+ d1 :+ d2 := c :+ i :+ q :+ d1 :+ d2 :- i) tt
+  bearing_held = solve_cents 1 (λ c i q d1 d2 x. c :+ q :+ d1 :+ d2 :+ x := c :+ i :+ q :+ d1 :+ d2 :- i :+ x) tt
 
   -- and nothing is pending where a run enters
   pub record HandedOver (entering : Option EnteringRun) : Type 0 where

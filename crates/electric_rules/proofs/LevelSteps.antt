@@ -54,25 +54,24 @@ module _ {clear : Bool} (l : Level) (t : LevelTally) (k : LevelKept clear l t) w
       }
 
   -- the tally reckons interest on the balance that bears it
-  same_balance : bearing_of l ≡ balance_of t
+  same_balance : (provisional : ℤ) → bearing_of provisional l ≡ balance_of provisional t
   unfolding balance_of
-  same_balance =
-      bearing_held l
-      ∙ ap (λ (z : ℤ). held_by l -ℤ z) k.accrued
+  same_balance provisional =
+      bearing_held l provisional
+      ∙ ap (λ (z : ℤ). held_by l -ℤ z +ℤ provisional) k.accrued
       ∙ eq_by _ _ (pos 1) _ _
-      (solve 6 (λ b h s i a n. h :- n :- (s :+ a :+ i :- n :- b) := # 1 :* (b :+ h :- (s :+ i :+ a))) tt
-      t.billed (held_by l) t.shares t.interest t.adjustments t.new_interest)
+      (solve 7 (λ b h s i a n x. h :- n :+ x :- (s :+ a :+ i :- n :- b :+ x) := # 1 :* (b :+ h :- (s :+ i :+ a))) tt
+      t.billed (held_by l) t.shares t.interest t.adjustments t.new_interest provisional)
       k.balances
 
-  accrued_keeps : (rate : ℤ) → LevelKept clear (accrued_level rate l) (interest_counted rate t)
+  -- book and tally reckon the same interest
+  accrued_keeps : (interest counted : ℤ) → interest ≡ counted → LevelKept clear (accrued_level interest l) (interest_counted counted t)
   unfolding interest_counted
-  accrued_keeps rate =
-      let same = ap (interest_on rate) same_balance in
-      let x = interest_on rate (balance_of t) in
+  accrued_keeps interest counted same =
       record {
         balances =
-            amount_added t.billed (held_by l) k.balances x (held_accrued l rate ∙ ap (λ (x : ℤ). held_by l +ℤ x) same)
-            ∙ solve 4 (λ s i a x. s :+ i :+ a :+ x := s :+ (i :+ x) :+ a) tt t.shares t.interest t.adjustments x;
+            amount_added t.billed (held_by l) k.balances counted (held_accrued l interest ∙ ap (λ (x : ℤ). held_by l +ℤ x) same)
+            ∙ solve 4 (λ s i a x. s :+ i :+ a :+ x := s :+ (i :+ x) :+ a) tt t.shares t.interest t.adjustments counted;
         accrued = λ i. k.accrued i +ℤ same i;
         pending = k.pending;
       }
@@ -86,8 +85,11 @@ module _ {clear : Bool} (l : Level) (t : LevelTally) (k : LevelKept clear l t) w
         pending = λ c. (λ i. (handed.pending i).due.0) ∙ none_pending after (is_some entering) clear l.pending h k.pending c;
       }
 
--- a month's end: interest, then the run that enters
+-- a month's end: interest, then the run that enters; of book and tally the provisional share is the same
 pub ended_keeps :
-    {before : Bool} (l : Level) (t : LevelTally) → LevelKept before l t → (rate : ℤ) (after : Bool) (entering : Option EnteringRun) → T (not after || (is_some entering || before)) →
-    LevelKept after (handed_over entering (accrued_level rate l)) (interest_counted rate t)
-ended_keeps l t k rate after entering h = handed_keeps (accrued_level rate l) (interest_counted rate t) (accrued_keeps l t k rate) after entering h
+    {before : Bool} (l : Level) (t : LevelTally) → LevelKept before l t → (rate : ℤ) {provisional counted : ℤ} → provisional ≡ counted →
+    (after : Bool) (entering : Option EnteringRun) → T (not after || (is_some entering || before)) →
+    LevelKept after (handed_over entering (accrued_level (interest_on rate (bearing_of provisional l)) l)) (interest_counted (interest_on rate (balance_of counted t)) t)
+ended_keeps l t k rate {provisional} {counted} e after entering h =
+    let same = same_balance l t k provisional ∙ ap (λ (z : ℤ). balance_of z t) e in
+    handed_keeps _ _ (accrued_keeps l t k _ _ (ap (interest_on rate) same)) after entering h

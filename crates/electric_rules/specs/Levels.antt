@@ -55,9 +55,9 @@ settled_level share estimate l = filed_level (filed_run (owed_by share l) estima
 
 -- ---- month end, at a yearly rate in millionths
 
--- the balance that bears interest: C + Q + d1 + d2. Accrued interest bears none
-unfoldable pub bearing_of : Level → ℤ
-bearing_of l = l.carried.0 +ℤ l.pending.due.0 +ℤ l.first.due.0 +ℤ l.second.due.0
+-- the balance that bears interest (02, b): C + Q + d1 + d2 and the provisional share. Accrued interest bears none
+unfoldable pub bearing_of : ℤ → Level → ℤ
+bearing_of provisional l = l.carried.0 +ℤ l.pending.due.0 +ℤ l.first.due.0 +ℤ l.second.due.0 +ℤ provisional
 
 -- round(r × balance / 12000000)
 unfoldable pub interest_on : ℤ → ℤ → ℤ
@@ -65,14 +65,8 @@ interest_on rate balance = round (rate *ℤ balance) (pos 12000000)
 
 -- I grows by it
 abbrev pub accrued_level : ℤ → Level → Level
-accrued_level rate l =
-    record {
-      carried = l.carried;
-      interest = cents (l.interest.0 +ℤ interest_on rate (bearing_of l));
-      pending = l.pending;
-      first = l.first;
-      second = l.second;
-    }
+accrued_level interest l =
+    record { carried = l.carried; interest = cents (l.interest.0 +ℤ interest); pending = l.pending; first = l.first; second = l.second }
 
 -- run 1 adds its d to C and becomes (q, Q); Q and q become 0
 abbrev pub into_first : Level → Level

@@ -1,5 +1,5 @@
 -- The electric book, in the order in which to read it: the book, its calendar, rates and formulas; by kind the next book and the answer;
--- limits and refusals; the tally, and the claim that no cent is lost.
+-- limits and refusals; the tally, and what is claimed: that no cent is lost, and what a provisional share is.
 pub mod Book
 pub mod Calendar
 pub mod Rates

@@ -10,6 +10,7 @@ use Rattle.postings.specs.declared.Posting.{Posting}
 use Rattle.postings.specs.declared.Answer.{Answer}
 use Rattle.postings.specs.declared.Answer.TheVariants.{Line, FiledLevels, Interest, Done}
 use Rattle.riders.specs.Months.{month_after}
+use Rattle.electric_rules.specs.declared.Rates.{Rates}
 use Rattle.electric_rules.specs.declared.Remainder.{Remainder}
 use Rattle.electric_rules.specs.declared.Level.{Level}
 use Rattle.electric_rules.specs.declared.Period.{Period}
@@ -17,7 +18,7 @@ use Rattle.electric_rules.specs.declared.ElectricBook.{ElectricBook}
 use Rattle.electric_rules.specs.Book.{remainder, sales_of}
 use Rattle.electric_rules.specs.Calendar.{entering}
 use Rattle.electric_rules.specs.Rates.{rates_of}
-use Rattle.electric_rules.specs.Settlement.{remainder_after, secondary_share, primary_share}
+use Rattle.electric_rules.specs.Settlement.{remainder_after, secondary_share, primary_share, provisional_share}
 use Rattle.electric_rules.specs.Levels.{level_line, billed_level, adjusted_level, settled_level, bearing_of, interest_on, accrued_level, handed_over}
 
 -- ---- the book with other parts
@@ -94,13 +95,26 @@ settle_posted b p =
     (settled_level (secondary_share rates b.period) p.first b.secondary)
     (settled_level (primary_share rates b.period) p.second b.primary)
 
--- r: interest, then the run that enters
+-- what settling today would give the level of that share
+abbrev pub provisional_of : (Rates → Period → ℤ) → ElectricBook → ℤ
+provisional_of share b = provisional_share share (rates_of b.division) b.settled b.period
+
+-- r: that month's interest of each level
+abbrev pub secondary_interest : ElectricBook → Posting → ℤ
+secondary_interest b p = interest_on p.first (bearing_of (provisional_of secondary_share b) b.secondary)
+
+abbrev pub primary_interest : ElectricBook → Posting → ℤ
+primary_interest b p = interest_on p.first (bearing_of (provisional_of primary_share b) b.primary)
+
+-- interest, then the run that enters
 abbrev pub ended_level : ℕ → ℤ → Level → Level
-ended_level month rate l = handed_over (entering month) (accrued_level rate l)
+ended_level month interest l = handed_over (entering month) (accrued_level interest l)
 
 abbrev pub month_ended : ElectricBook → Posting → ElectricBook
 month_ended b p =
-    ended_with b (month_after b.month) (ended_level b.month p.first b.secondary) (ended_level b.month p.first b.primary)
+    ended_with b (month_after b.month)
+    (ended_level b.month (secondary_interest b p) b.secondary)
+    (ended_level b.month (primary_interest b p) b.primary)
 
 -- level, amount
 abbrev pub adjust_posted : ElectricBook → Posting → ElectricBook
@@ -128,9 +142,8 @@ line_answer b p = Line (cents (level_line p.second (level_at p.first b)))
 abbrev pub filed_answer : ElectricBook → Posting → Answer
 filed_answer b p = FiledLevels (settle_posted b p).secondary.pending.factor (settle_posted b p).primary.pending.factor
 
--- that month's interest of each level
 abbrev pub interest_answer : ElectricBook → Posting → Answer
-interest_answer b p = Interest (cents (interest_on p.first (bearing_of b.secondary))) (cents (interest_on p.first (bearing_of b.primary)))
+interest_answer b p = Interest (cents (secondary_interest b p)) (cents (primary_interest b p))
 
 abbrev pub answer_at : Kind → ElectricBook → Posting → Answer
 answer_at Cost b p = Done

@@ -1,6 +1,5 @@
 -- Which postings to the electric book are refused, with which number (01, Refusals in order of checking), and so what a posting gives.
-use Rattle.std.specs.Prelude.{Bool, not, ◌&&◌, List, [], ◌∷◌, pos, ◌+ℤ◌, Result}
-use Rattle.ints.specs.Machine.{eq_z}
+use Rattle.std.specs.Prelude.{Bool, not, ◌&&◌, List, [], ◌∷◌, Result}
 use Rattle.refusals.specs.Rows.{Row, row}
 use Rattle.refusals.specs.declared.Refusal.{Refusal}
 use Rattle.refusals.specs.declared.Refusal.TheVariants.{UnknownKind, StrayNumber, BookOutOfLimits, OutOfRange, Forbidden, NothingSold, NextOutOfLimits}
@@ -14,12 +13,13 @@ use Rattle.riders.specs.Months.{forbidden}
 use Rattle.riders.specs.Rules.{Rules, given_of}
 use Rattle.electric_rules.specs.declared.ElectricBook.{ElectricBook}
 use Rattle.electric_rules.specs.Calendar.{settles}
+use Rattle.electric_rules.specs.Settlement.{no_kwh}
 use Rattle.electric_rules.specs.Limits.{in_limits}
 use Rattle.electric_rules.specs.Next.{next_of, answer_of}
 
 -- 10: settle with Ss + Sp = 0
 abbrev pub nothing_sold : Kind → ElectricBook → Bool
-nothing_sold kind b = is_kind Settle kind && eq_z (b.period.sales.secondary.0 +ℤ b.period.sales.primary.0) (pos 0)
+nothing_sold kind b = is_kind Settle kind && no_kwh b.period
 
 -- the table, in the order of checking; 9 and 11 are the steam book's
 abbrev pub rows_of : ElectricBook → Posting → List Row

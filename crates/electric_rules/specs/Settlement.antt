@@ -1,6 +1,7 @@
 -- What a settlement works out from a period (01, Electric book, Settle; sheet 125): variance, customers' share, remainder, weight and the
--- levels' shares. Single letters are the paper's.
-use Rattle.std.specs.Prelude.{ℤ, pos, ◌+ℤ◌, ◌-ℤ◌, ◌*ℤ◌}
+-- levels' shares; and what it would give before it (02, b). Single letters are the paper's.
+use Rattle.std.specs.Prelude.{Bool, cond, ◌||◌, ℤ, pos, ◌+ℤ◌, ◌-ℤ◌, ◌*ℤ◌}
+use Rattle.ints.specs.Machine.{eq_z}
 use Rattle.rounding.specs.Round.{round}
 use Rattle.rounding.specs.Weight.{weight_of}
 use Rattle.electric_rules.specs.declared.Rates.{Rates}
@@ -33,3 +34,14 @@ secondary_share r p = round (share_of r p *ℤ weight_by r p) (pos 100000)
 -- R less that
 unfoldable pub primary_share : Rates → Period → ℤ
 primary_share r p = share_of r p -ℤ secondary_share r p
+
+-- ---- before the settlement
+
+-- no kWh: Ss + Sp = 0
+abbrev pub no_kwh : Period → Bool
+no_kwh p = eq_z (p.sales.secondary.0 +ℤ p.sales.primary.0) (pos 0)
+
+-- the provisional share, document 02's term: what settling today would give a level, which is named by its share there. With no kWh yet, or in a
+-- settled month, it is 0
+unfoldable pub provisional_share : (Rates → Period → ℤ) → Rates → Bool → Period → ℤ
+provisional_share share rates settled p = cond (settled || no_kwh p) (pos 0) (share rates p)

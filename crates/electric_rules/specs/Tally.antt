@@ -1,6 +1,6 @@
 -- The tally of the electric book (01, The tally): fed each posting, whether it was accepted and, for a bill, the line answered, never the
 -- book. K, Ss, Sp and rem are its own, and stand in a period of its own; V, R, w and the shares follow from them by the book's formulas.
-use Rattle.std.specs.Prelude.{cond, ℤ, pos, ◌+ℤ◌, ◌-ℤ◌}
+use Rattle.std.specs.Prelude.{false, cond, ℤ, pos, ◌+ℤ◌, ◌-ℤ◌}
 use Rattle.postings.specs.Kinds.{kind_of}
 use Rattle.postings.specs.declared.kinds.Kind.{Kind}
 use Rattle.postings.specs.declared.kinds.Kind.TheVariants.{Cost, Sales, Bill, Settle, MonthEnd, Adjust, Reconcile, Unknown}
@@ -9,7 +9,7 @@ use Rattle.riders.specs.Histories.{Entry}
 use Rattle.electric_rules.specs.declared.Rates.{Rates}
 use Rattle.electric_rules.specs.declared.Period.{Period}
 use Rattle.electric_rules.specs.Book.{sales_of, period_of, no_period}
-use Rattle.electric_rules.specs.Settlement.{variance_of, remainder_after, secondary_share, primary_share}
+use Rattle.electric_rules.specs.Settlement.{variance_of, remainder_after, secondary_share, primary_share, provisional_share}
 use Rattle.electric_rules.specs.Levels.{interest_on}
 use Rattle.electric_rules.specs.Next.{is_secondary}
 
@@ -87,20 +87,27 @@ settle_counted rates t =
       primary = share_counted (primary_share rates t.period) t.primary;
     }
 
--- shares + adjustments + interest − new interest − billed
-unfoldable pub balance_of : LevelTally → ℤ
-balance_of l = l.shares +ℤ l.adjustments +ℤ l.interest -ℤ l.new_interest -ℤ l.billed
+-- shares + adjustments + interest − new interest − billed, and the provisional share (02, b)
+unfoldable pub balance_of : ℤ → LevelTally → ℤ
+balance_of provisional l = l.shares +ℤ l.adjustments +ℤ l.interest -ℤ l.new_interest -ℤ l.billed +ℤ provisional
 
--- interest and new interest both grow by round(r × balance / 12000000)
+-- interest and new interest both grow by it
 unfoldable pub interest_counted : ℤ → LevelTally → LevelTally
-interest_counted rate l =
+interest_counted interest l =
     record {
       billed = l.billed;
       shares = l.shares;
-      interest = l.interest +ℤ interest_on rate (balance_of l);
+      interest = l.interest +ℤ interest;
       adjustments = l.adjustments;
-      new_interest = l.new_interest +ℤ interest_on rate (balance_of l);
+      new_interest = l.new_interest +ℤ interest;
     }
+
+-- round(r × balance / 12000000) at either level. The tally has no settled month: from an accepted settlement to the month's end its kWh are 0
+unfoldable pub month_counted : Rates → ℤ → Tally → Tally
+month_counted rates rate t =
+    with_level_tallies t
+    (interest_counted (interest_on rate (balance_of (provisional_share secondary_share rates false t.period) t.secondary)) t.secondary)
+    (interest_counted (interest_on rate (balance_of (provisional_share primary_share rates false t.period) t.primary)) t.primary)
 
 -- adjustments grow by the amount
 unfoldable pub adjustment_counted : ℤ → LevelTally → LevelTally
@@ -112,7 +119,7 @@ count_at Cost rates t p line = cost_counted t p
 count_at Sales rates t p line = sales_counted t p
 count_at Bill rates t p line = with_level_tally_at p.first t (line_counted line (level_tally_at p.first t))
 count_at Settle rates t p line = settle_counted rates t
-count_at MonthEnd rates t p line = with_level_tallies t (interest_counted p.first t.secondary) (interest_counted p.first t.primary)
+count_at MonthEnd rates t p line = month_counted rates p.first t
 count_at Adjust rates t p line = with_level_tally_at p.first t (adjustment_counted p.second (level_tally_at p.first t))
 count_at Reconcile rates t p line = t
 count_at Unknown rates t p line = t

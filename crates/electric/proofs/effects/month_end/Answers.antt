@@ -1,10 +1,9 @@
 -- `effects::month_end` tests and stores either level at the month's end. Assumes nothing.
 use Rattle.std.specs.Prelude.{◌≡◌, ℤ, Option, Result}
-use Rattle.std.proofs.Common.{rules, ap, sym, ◌∙◌}
-use Rattle.refusals.specs.Rows.{stored_or_12}
+use Rattle.std.proofs.Common.{rules, sym, ◌∙◌}
+use Rattle.ints.specs.Range.{between_same}
 use Rattle.refusals.specs.declared.Refusal.{Refusal}
 use Rattle.refusals.proofs.TableLaws.{stored_within}
-use Rattle.amounts.specs.Amounts.{cents}
 use Rattle.amounts.specs.declared.Cents.{Cents}
 use Rattle.postings.specs.declared.Answer.TheVariants.{Interest}
 use Rattle.riders.specs.Posts.{first_refuses, second_refuses, refused, stored}
@@ -12,24 +11,29 @@ use Rattle.electric_rules.specs.declared.Level.{Level}
 use Rattle.electric_rules.specs.declared.EnteringRun.{EnteringRun}
 use Rattle.electric_rules.specs.Calendar.{entering}
 use Rattle.electric_rules.proofs.Changed.{levels, month_end_decides}
-use Rattle.electric_rules.specs.Levels.{bearing_of, interest_on, accrued_level, handed_over}
-use Rattle.electric_rules.specs.Limits.{level_in_limits}
-use Rattle.electric_rules.specs.Next.{ended_with}
-use Rattle.electric_rules.specs.Ranges.{level_within}
+use Rattle.electric_rules.specs.Levels.{bearing_of, interest_on}
+use Rattle.electric_rules.specs.Next.{ended_with, secondary_interest, primary_interest}
+use Rattle.electric_rules.specs.Ranges.{book_within, level_within}
+use Rattle.electric.specs.Taken.{ended_at}
+use Rattle.electric.proofs.Shared.{provisional_small}
 use Rattle.electric.proofs.effects.month_end.Goals as goal
 use Rattle.electric.proofs.effects.month_end.Goals.{After-ended, After-ended-2}
 
 -- what is tested is what the rules test
-abbrev ended_at : Option EnteringRun → ℤ → Level → Result (Cents × Level) Refusal
-ended_at run rate l =
-    let next = handed_over run (accrued_level rate l) in
-    stored_or_12 (level_in_limits next) (cents (interest_on rate (bearing_of l)), next)
+abbrev ended_by : Option EnteringRun → ℤ → Cents → Level → Result (Cents × Level) Refusal
+ended_by run rate provisional l = ended_at run (interest_on rate (bearing_of provisional.0 l)) l
 
-secondary_is : (c : After-ended) → c.ended.result ≡ ended_at (entering c.args.book.now.month) c.args.posting.first c.args.book.now.secondary
-secondary_is c = c.ended.ensures ∙ ap (λ (run : Option EnteringRun). ended_at run c.args.posting.first c.args.book.now.secondary) c.entering.ensures
+secondary_is : (c : After-ended) → c.ended.result ≡ ended_at (entering c.args.book.now.month) (secondary_interest c.args.book.now c.args.posting) c.args.book.now.secondary
+secondary_is c = c.ended.ensures ∙ (λ i. ended_by (c.entering.ensures i) c.args.posting.first (c.provisional_shares.ensures i).0 c.args.book.now.secondary)
 
-primary_is : (c : After-ended-2) → c.ended-2.result ≡ ended_at (entering c.args.book.now.month) c.args.posting.first c.args.book.now.primary
-primary_is c = c.ended-2.ensures ∙ ap (λ (run : Option EnteringRun). ended_at run c.args.posting.first c.args.book.now.primary) c.entering.ensures
+primary_is : (c : After-ended-2) → c.ended-2.result ≡ ended_at (entering c.args.book.now.month) (primary_interest c.args.book.now c.args.posting) c.args.book.now.primary
+primary_is c = c.ended-2.ensures ∙ (λ i. ended_by (c.entering.ensures i) c.args.posting.first (c.provisional_shares.ensures i).1 c.args.book.now.primary)
+
+pub ended-requires : goal.ended-requires
+ended-requires c = between_same (λ i. (c.provisional_shares.ensures i).0.0) (provisional_small c.args.book.now (book_within c.args.book.now c.requires.0)).0
+
+pub ended-requires-2 : goal.ended-requires-2
+ended-requires-2 c = between_same (λ i. (c.provisional_shares.ensures i).1.0) (provisional_small c.args.book.now (book_within c.args.book.now c.requires.0)).1
 
 pub invariant_of-on_secondary : goal.invariant_of-on_secondary
 invariant_of-on_secondary c =
