@@ -23,7 +23,13 @@ const SECTIONS: [(&str, u64); 10] = [
 const BESIDE: &str = "Beside the paper";
 
 /// The requests, in the order in which they landed, each with the sum of its words.
-const REQUESTS: [(&str, u64); 1] = [("The factor sheet, printed", 0x87d5_0585_ac4f_bc66)];
+const REQUESTS: [(&str, u64); 2] = [
+    ("The factor sheet, printed", 0x87d5_0585_ac4f_bc66),
+    (
+        "Interest from the first month of cost",
+        0xc9d7_2601_f1f2_1080,
+    ),
+];
 
 /// The pages that the README's tables list, each with what it is called there.
 fn listed() -> Vec<(String, String)> {
