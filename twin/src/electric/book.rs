@@ -78,7 +78,7 @@ impl Level {
         i128::from(self.interest) + self.bears_interest()
     }
 
-    /// The cents that bear interest, the paper's C + Q + d1 + d2.
+    /// The cents held that bear interest, the paper's C + Q + d1 + d2; the provisional share bears it beside them.
     #[inline]
     pub fn bears_interest(&self) -> i128 {
         let runs = [self.pending, self.first, self.second];

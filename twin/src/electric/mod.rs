@@ -9,7 +9,7 @@ pub mod sheet;
 
 pub use book::*;
 pub use reply::{Levels, Reply};
-pub use sharing::{share, shares_fit_variances, Open, Shared};
+pub use sharing::{provisional_shares, share, shares_fit_variances, Open, Shared};
 
 use crate::posted::{self, accepted, refused, Replied};
 use crate::records::Posting;

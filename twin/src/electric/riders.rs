@@ -3,7 +3,7 @@
 use super::book::{kwh_within_limits, ElectricBook, Level, Period, Sales};
 use super::entry::Entry;
 use super::reply::{Levels, Reply};
-use super::sharing::{share, Open};
+use super::sharing::{provisional_shares_of, share, Open};
 use crate::amounts::{answered, stored_cents, stored_factor, Run};
 use crate::calendar::{month_after, AUGUST, FEBRUARY};
 use crate::posted::{done, Outcome};
@@ -67,7 +67,7 @@ fn bill(level: &mut Level, kwh: i64) -> Outcome<Reply> {
 fn settle(book: &mut ElectricBook, secondary: i64, primary: i64) -> Outcome<Reply> {
     let period = &mut book.period;
     let open = Open::of(period);
-    if open.secondary + open.primary == 0 {
+    if open.is_unsold() {
         return Err(NOTHING_SOLD);
     }
     let shared = share(book.division, open);
@@ -107,9 +107,10 @@ fn file(level: &mut Level, run: Run) -> i32 {
 
 #[inline(always)]
 fn end_month(book: &mut ElectricBook, rate: i64) -> Outcome<Reply> {
+    let shares = provisional_shares_of(book);
     let interest = Levels {
-        secondary: month_interest(&book.secondary, rate),
-        primary: month_interest(&book.primary, rate),
+        secondary: month_interest(&book.secondary, shares.secondary, rate),
+        primary: month_interest(&book.primary, shares.primary, rate),
     };
     let secondary = at_month_end(&book.secondary, book.month, interest.secondary)?;
     let primary = at_month_end(&book.primary, book.month, interest.primary)?;
@@ -123,9 +124,10 @@ fn end_month(book: &mut ElectricBook, rate: i64) -> Outcome<Reply> {
     })
 }
 
-fn month_interest(level: &Level, rate: i64) -> i64 {
-    let interest = round(i128::from(rate) * level.bears_interest(), MONTHLY_DIVISOR);
-    answered(interest)
+/// The month's interest on the level's cents and on its provisional share.
+fn month_interest(level: &Level, share: i128, rate: i64) -> i64 {
+    let base = level.bears_interest() + share;
+    answered(round(i128::from(rate) * base, MONTHLY_DIVISOR))
 }
 
 /// Carried cents and interest after the month's end.

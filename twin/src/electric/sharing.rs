@@ -1,6 +1,7 @@
 //! The variance of a period and its customers' share, parted between the levels.
 
-use super::book::Period;
+use super::book::{ElectricBook, Period};
+use super::reply::Levels;
 use crate::rounding::{round, WHOLE_WEIGHT};
 
 /// What a division's opening fixes.
@@ -32,7 +33,7 @@ pub(super) const CUSTOMER_HUNDREDTHS: i128 = 95;
 /// Variances are in thousandths of a cent, and shares in hundredths of them.
 const SHARE_DIVISOR: i128 = 100_000;
 
-/// What is open of a period when it is settled.
+/// What is open of a period.
 #[derive(Clone, Copy, Debug, Default)]
 pub struct Open {
     pub cost: i128,
@@ -49,6 +50,11 @@ impl Open {
             primary: period.sales.primary.into(),
             remainder: period.remainder.into(),
         }
+    }
+
+    /// Whether nothing is sold yet.
+    pub fn is_unsold(&self) -> bool {
+        self.secondary + self.primary == 0
     }
 }
 
@@ -90,6 +96,26 @@ pub fn share(division: u8, open: Open) -> Shared {
         weight,
         secondary,
         primary: customers - secondary,
+    }
+}
+
+/// The shares that settling what is open would give; none where nothing is sold.
+pub fn provisional_shares(division: u8, open: Open) -> Levels<i128> {
+    if open.is_unsold() {
+        return Levels::default();
+    }
+    let shared = share(division, open);
+    Levels {
+        secondary: shared.secondary,
+        primary: shared.primary,
+    }
+}
+
+/// The provisional shares of the book, which a settled month has none of.
+pub(super) fn provisional_shares_of(book: &ElectricBook) -> Levels<i128> {
+    match book.settled {
+        true => Levels::default(),
+        false => provisional_shares(book.division, Open::of(&book.period)),
     }
 }
 

@@ -1,6 +1,8 @@
 //! The tally of an electric book.
 
-use crate::electric::{share, shares_fit_variances, ElectricBook, Level, Open, Posted};
+use crate::electric::{
+    provisional_shares, share, shares_fit_variances, ElectricBook, Level, Open, Posted,
+};
 use crate::records::{Posting, ADJUST, BILL, COST, MONTH_END, SALES, SETTLE};
 use crate::rounding::round;
 
@@ -50,10 +52,7 @@ impl Tally {
             }
             BILL => self.level(numbers[0]).billed += i128::from(posted.reply.line),
             SETTLE => self.settle(),
-            MONTH_END => {
-                self.secondary.end_month(numbers[0]);
-                self.primary.end_month(numbers[0]);
-            }
+            MONTH_END => self.end_month(numbers[0]),
             ADJUST => self.level(numbers[0]).adjustments += numbers[1],
             kind => panic!("kind {kind} was accepted"),
         }
@@ -78,6 +77,13 @@ impl Tally {
         self.primary.settle(shared.primary);
     }
 
+    /// After a settlement nothing is sold, so that a settled month has no provisional share here either.
+    fn end_month(&mut self, rate: i128) {
+        let provisional = provisional_shares(self.division, self.open);
+        self.secondary.end_month(rate, provisional.secondary);
+        self.primary.end_month(rate, provisional.primary);
+    }
+
     /// Holds the book after the postings fed to the conservation claim, or says where it fails.
     pub fn check(&self, book: &ElectricBook) -> Result<(), String> {
         self.secondary.check("secondary", &book.secondary)?;
@@ -97,9 +103,10 @@ impl LevelTally {
         self.new_interest = 0;
     }
 
-    fn end_month(&mut self, rate: i128) {
+    fn end_month(&mut self, rate: i128, provisional_share: i128) {
         let settled_interest = self.interest - self.new_interest;
-        let base = self.shares + self.adjustments + settled_interest - self.billed;
+        let held = self.shares + self.adjustments + settled_interest - self.billed;
+        let base = held + provisional_share;
         let interest = round(rate * base, 12_000_000);
         self.interest += interest;
         self.new_interest += interest;

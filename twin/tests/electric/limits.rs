@@ -175,6 +175,77 @@ fn interest_reaches_its_limit_and_no_further() {
     }
 }
 
+/// A book of the division with all cents of a sign at their limit but the interest, and the largest cost and sales open.
+fn largest(division: u8, sign: i64, remainder: i64) -> ElectricBook {
+    let period = [
+        ("cost", sign * CENTS),
+        ("secondary sales", KWH),
+        ("primary sales", KWH),
+        ("remainder", remainder),
+    ];
+    let mut largest = book(JANUARY, &period);
+    largest.division = division;
+    for (_, name) in LEVELS {
+        for cents in ["carried", "pending", "first due", "second due"] {
+            stored(&format!("{name} {cents}")).set(&mut largest, sign * CENTS);
+        }
+    }
+    largest
+}
+
+#[test]
+fn interest_on_the_largest_shares_reaches_its_limit_and_no_further() {
+    // C + Q + d1 + d2 and the share, a 60th of which is a month at 20% a year.
+    let cases = [
+        // 4462625967851 and 4453193032150: 74377099464.18 and 74219883869.17.
+        (0, 1, 50_000, [74_377_099_464, 74_219_883_869]),
+        // −4497159032151 and −4487021967850: −74952650535.85 and −74783699464.17.
+        (0, -1, -50_000, [-74_952_650_536, -74_783_699_464]),
+        // 4457805637260 and 4443972362740: 74296760621 and 74066206045.67.
+        (1, 1, -50_000, [74_296_760_621, 74_066_206_046]),
+        // −4506767362740 and −4491454637260: −75112789379 and −74857577287.67.
+        (1, -1, 50_000, [-75_112_789_379, -74_857_577_288]),
+    ];
+    for (division, sign, remainder, interest) in cases {
+        let mut near = largest(division, sign, remainder);
+        near.secondary.interest = sign * CENTS - interest[0];
+        near.primary.interest = sign * CENTS - interest[1];
+        let next = expect(interest, near, month_end(200_000));
+        let at_limit = [next.secondary, next.primary].map(|level| level.interest);
+        assert_eq!(at_limit, [sign * CENTS; 2]);
+        assert_eq!(next.period, near.period);
+        for (level, _) in LEVELS {
+            let mut past = near;
+            past.level_mut(level).interest += sign;
+            expect_refusal(12, past, month_end(200_000));
+        }
+    }
+}
+
+#[test]
+fn interest_passes_its_limit_by_the_share_alone() {
+    for (level, name, sign) in levels_and_signs() {
+        let interest = format!("{name} interest");
+        // V = 1799000 ± 20000000 − 1799000 is ±19000 cents of R, of which 1% are borne at 12% a year.
+        let near = |cents| {
+            let sold = ["secondary sales", "primary sales"][level as usize];
+            let values = [
+                ("cost", 1_799 + sign * 20_000),
+                (sold, 1_000),
+                (&interest, sign * (CENTS - cents)),
+            ];
+            book(JANUARY, &values)
+        };
+        lands(near(190), month_end(120_000), &interest, sign * CENTS);
+        expect_refusal(12, near(189), month_end(120_000));
+        // In a settled month the same book bears nothing.
+        let mut settled = near(189);
+        settled.month = NOVEMBER;
+        settled.settled = true;
+        lands(settled, month_end(120_000), &interest, sign * (CENTS - 189));
+    }
+}
+
 #[test]
 fn carried_cents_reach_their_limit_by_handover_and_no_further() {
     for (_, name, sign) in levels_and_signs() {

@@ -17,6 +17,7 @@ mod limits;
 #[path = "../common/met.rs"]
 mod met;
 mod openings;
+mod provisional;
 mod refusals;
 mod riders;
 mod sheets;

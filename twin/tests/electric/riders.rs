@@ -137,14 +137,18 @@ fn a_month_end_bears_interest_and_moves_on() {
         let settled = month == MAY || month == NOVEMBER;
         let before = book(month, settled);
         // C + Q + d1 + d2: 20000 + 3 × 10000 + 6, and −40000 − 3 × 20000 + 6.
-        let (base, other_base) = (50_006, -99_994);
-        // round(120000 × 50006 / 12000000) = 500, and round(−999.94) = −1000.
-        let interest = [500, -1_000];
-        assert_eq!(before.secondary.bears_interest(), base);
-        assert_eq!(before.primary.bears_interest(), other_base);
+        assert_eq!(before.secondary.bears_interest(), 50_006);
+        assert_eq!(before.primary.bears_interest(), -99_994);
+        // A twelfth of 12% of that in a settled month: 500.06, and −999.94.
+        // In others the settlement above would give 397100 more, and 495140: 4471.06, and 3951.46.
+        let interest = if settled {
+            [500, -1_000]
+        } else {
+            [4_471, 3_951]
+        };
         let mut after = before;
-        after.secondary.interest += 500;
-        after.primary.interest -= 1_000;
+        after.secondary.interest += interest[0];
+        after.primary.interest += interest[1];
         for level in [&mut after.secondary, &mut after.primary] {
             hand_over(level, month);
         }
@@ -171,7 +175,9 @@ fn hand_over(level: &mut Level, month: u8) {
 #[test]
 fn what_is_handed_over_bears_interest_once() {
     for (month, run) in [(FEBRUARY, 0), (AUGUST, 1)] {
+        // Nothing is sold, so that there is no provisional share.
         let mut before = book(month, false);
+        before.period.sales = Sales::default();
         before.secondary = Level {
             pending: Run {
                 factor: 7,
@@ -196,8 +202,9 @@ fn what_is_handed_over_bears_interest_once() {
 }
 
 #[test]
-fn open_cost_and_accrued_interest_bear_no_interest() {
+fn accrued_interest_bears_no_interest() {
     let mut before = book(JANUARY, false);
+    before.period.sales = Sales::default();
     before.secondary = Level {
         interest: 1_000_000_000,
         ..Level::default()
