@@ -2,6 +2,7 @@
 
 use crate::driver::Driver;
 use crate::met::{seeded, Met};
+use crate::month_ends::MonthEnds;
 use crate::postings::KINDS;
 use crate::sides::{open, post, NUMBERS};
 use crate::stored::{CENTS, STORED};
@@ -69,7 +70,7 @@ impl AtLimits {
 }
 
 /// One history, which must keep the claim; gives what was met in it.
-fn run(seed: u64, limits: &mut AtLimits) -> Met {
+fn run(seed: u64, limits: &mut AtLimits, month_ends: &mut MonthEnds) -> Met {
     let (random, origin) = seeded(seed);
     let mut driver = Driver::new(random, seed % 3 == 1);
     let mut met = Met::default();
@@ -84,6 +85,9 @@ fn run(seed: u64, limits: &mut AtLimits) -> Met {
             panic!("{failure}\nafter {posting:?} on {last:?}, posting {index}, {origin}");
         }
         limits.count(&last, posting, &next);
+        if posting.kind == MONTH_END && next.reply.number == 0 {
+            month_ends.count(&last.book, posting.numbers[0]);
+        }
         met.count(posting, next.reply.number);
         last = next;
     }
@@ -100,12 +104,14 @@ fn run(seed: u64, limits: &mut AtLimits) -> Met {
 #[test]
 fn histories_agree_and_keep_the_claim() {
     let mut limits = AtLimits::default();
+    let mut month_ends = MonthEnds::default();
     let mut met = Met::default();
     for seed in 1..=HISTORIES {
-        met.add(&run(seed, &mut limits));
+        met.add(&run(seed, &mut limits, &mut month_ends));
     }
     met.print("histories");
     limits.check();
+    month_ends.check("accepted month ends of histories", 100);
     // From fresh no book is ever out of its limits.
     let reached: Vec<u8> = NUMBERS.into_iter().filter(|&number| number != 6).collect();
     met.has_numbers(1_000, &reached);

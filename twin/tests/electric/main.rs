@@ -16,6 +16,8 @@ mod in_place;
 mod limits;
 #[path = "../common/met.rs"]
 mod met;
+#[path = "../common/month_ends.rs"]
+mod month_ends;
 mod openings;
 mod provisional;
 mod refusals;

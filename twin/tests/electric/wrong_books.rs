@@ -3,27 +3,34 @@
 use crate::postings::{adjust, bill, cost, month_end, sales, settle};
 use twin::amounts::Run;
 use twin::calendar::{AUGUST, DECEMBER, FEBRUARY, JANUARY, JUNE};
-use twin::electric::{is_settling, post, share, ElectricBook, Open, Period, Posted, Reply};
+use twin::electric::{
+    is_settling, post, provisional_shares, share, ElectricBook, Open, Period, Posted, Reply,
+};
 use twin::records::{Posting, BILL, COST, MONTH_END, SETTLE};
 use twin::rounding::{round, weight};
 use twin::tally::electric::Tally;
 
 /// What a wrong book knows of a posting that the right one would accept.
-struct Step {
-    before: ElectricBook,
-    posting: Posting,
+pub struct Step {
+    pub before: ElectricBook,
+    pub posting: Posting,
     /// The settlements accepted so far.
     settlements: usize,
+    /// What was open when the month began.
+    pub month_began: Period,
+    /// What the last settlement settled.
+    pub settled: Period,
 }
 
 /// A change of the right answer and the right next book.
-type Change = fn(&Step, &mut Posted);
+pub type Change = fn(&Step, &mut Posted);
 
 /// The first failure of the claim on the list, if there is one, and how many were accepted.
 fn claim_on(list: &[Posting], change: Change) -> (Result<(), String>, usize) {
     let mut book = ElectricBook::fresh(0);
     let mut tally = Tally::new(0);
     let (mut settlements, mut accepted) = (0, 0);
+    let (mut month_began, mut settled) = (book.period, book.period);
     for &posting in list {
         let mut posted = post(book, posting);
         if posted.reply.number == 0 {
@@ -31,6 +38,8 @@ fn claim_on(list: &[Posting], change: Change) -> (Result<(), String>, usize) {
                 before: book,
                 posting,
                 settlements,
+                month_began,
+                settled,
             };
             change(&step, &mut posted);
         }
@@ -40,27 +49,31 @@ fn claim_on(list: &[Posting], change: Change) -> (Result<(), String>, usize) {
         }
         let taken = posted.reply.number == 0;
         accepted += usize::from(taken);
-        settlements += usize::from(taken && posting.kind == SETTLE);
+        match posting.kind {
+            SETTLE if taken => (settlements, settled) = (settlements + 1, book.period),
+            MONTH_END if taken => month_began = posted.book.period,
+            _ => {}
+        }
         book = posted.book;
     }
     (Ok(()), accepted)
 }
 
 /// Holds the claim to fail for the wrong book, where it stands for the right one.
-fn is_caught(name: &str, list: &[Posting], change: Change) {
+pub fn is_caught(name: &str, list: &[Posting], change: Change) {
     let right = claim_on(list, |_, _| {});
     assert_eq!(right, (Ok(()), list.len()), "the right book beside {name}");
     let (wrong, _) = claim_on(list, change);
     assert!(wrong.is_err(), "the claim lets {name} pass");
 }
 
-fn passes(name: &str, list: &[Posting], change: Change) {
+pub fn passes(name: &str, list: &[Posting], change: Change) {
     let (claim, _) = claim_on(list, change);
     assert_eq!(claim, Ok(()), "{name}");
 }
 
 /// So many months from June on, with something of every kind.
-fn months(count: usize) -> Vec<Posting> {
+pub fn months(count: usize) -> Vec<Posting> {
     let mut list = Vec::new();
     let mut month = JUNE;
     for _ in 0..count {
@@ -143,7 +156,8 @@ fn interest_on_accrued_interest_is_caught() {
     let change: Change = |step, posted| {
         if step.posting.kind == MONTH_END {
             let rate = i128::from(step.posting.numbers[0]);
-            let base = step.before.secondary.held();
+            let shares = provisional_shares(0, Open::of(&step.before.period));
+            let base = step.before.secondary.held() + shares.secondary;
             let interest = round(rate * base, 12_000_000) as i64;
             posted.book.secondary.interest = step.before.secondary.interest + interest;
         }

@@ -1,10 +1,13 @@
 //! What the random journals are made to be: years of accepted postings, and inputs of every length.
 
 use crate::met::Met;
+use crate::month_ends::MonthEnds;
 use crate::sides::printed;
+use twin::electric::{post, ElectricBook};
 use twin::generate::journals::Journal;
 use twin::generate::plan::{End, Opening, Plan};
 use twin::random::Random;
+use twin::records::{read_record, Book, Read, MONTH_END};
 
 const OPENINGS: [Opening; 3] = [
     Opening::Division(0),
@@ -47,6 +50,30 @@ fn valid_journals_are_years_of_accepted_postings() {
             assert!(index < 2 || book.answered[7] > 2, "{book:?}, {origin}");
         }
     }
+}
+
+/// Counts the accepted month ends of an electric journal.
+fn count_month_ends(input: &[u8], month_ends: &mut MonthEnds) {
+    let Some(&division @ 0..=1) = input.first() else {
+        return;
+    };
+    let (mut book, mut place) = (ElectricBook::fresh(division), 1);
+    while let Read::Found { posting, next } = read_record(Book::Electric, input, place) {
+        let posted = post(book, posting);
+        if posting.kind == MONTH_END && posted.reply.number == 0 {
+            month_ends.count(&book, posting.numbers[0]);
+        }
+        (book, place) = (posted.book, next);
+    }
+}
+
+#[test]
+fn month_ends_of_every_sort_are_made() {
+    let mut month_ends = MonthEnds::default();
+    for seed in 1..=2_000 {
+        count_month_ends(&Journal::of_seed(seed).bytes, &mut month_ends);
+    }
+    month_ends.check("accepted month ends of journals", 10);
 }
 
 #[test]

@@ -18,6 +18,8 @@ mod listed;
 mod losses;
 mod made;
 mod met;
+#[path = "../common/month_ends.rs"]
+mod month_ends;
 mod openings;
 mod plain;
 mod program;

@@ -198,8 +198,10 @@ impl Driver {
         if !is_settling(book.month) || book.settled {
             let range = ranges(MONTH_END)[0];
             let usual = self.random.within(0, 120_000);
+            // By these a month bears a whole part of the cents, so that it is often at a half.
+            let round = self.random.one_of(&[100_000, 120_000, 150_000, 200_000]);
             let any = field(&mut self.random, range, size);
-            return month_end(self.random.one_of(&[usual, any]));
+            return month_end(self.random.one_of(&[usual, round, any]));
         }
         let sold = book.period.sales;
         if sold.secondary == 0 && sold.primary == 0 && self.random.coin() {

@@ -5,6 +5,7 @@ use super::plain;
 use crate::books::sound_book;
 use crate::fields::{field, Size};
 use crate::met::seeded;
+use crate::month_ends::MonthEnds;
 use crate::postings::{month_end, ranges};
 use crate::sides::post;
 use crate::stored::{CENTS, REMAINDER};
@@ -58,53 +59,31 @@ fn rate(random: &mut Random) -> i64 {
     random.one_of(&[60_000, 120_000, 200_000, any])
 }
 
-/// What random month ends have, each of which must be met.
-const SORTS: [&str; 10] = [
-    "L&P due",
-    "L&P credit",
-    "MPS due",
-    "MPS credit",
-    "secondary alone",
-    "primary alone",
-    "cost and nothing sold",
-    "settled with cost and sales",
-    "the largest rate",
-    "refused by interest",
-];
-
-/// How often each sort was met, and how often each flaw told.
+/// What random month ends met, and how often each flaw told.
 struct Counts {
-    sorts: [usize; SORTS.len()],
+    month_ends: MonthEnds,
+    settled_with_cost_and_sales: usize,
+    refused_with_a_share: usize,
     told: Vec<usize>,
 }
 
 impl Counts {
     fn new() -> Self {
         Self {
-            sorts: [0; SORTS.len()],
+            month_ends: MonthEnds::default(),
+            settled_with_cost_and_sales: 0,
+            refused_with_a_share: 0,
             told: vec![0; FLAWS.len()],
         }
     }
 
     fn count(&mut self, book: &ElectricBook, rate: i64, refused: bool) {
-        let shares = plain::shares(book, Flaw::Nothing);
-        let both = shares[0] + shares[1];
-        let (first, period) = (book.division == 0, book.period);
-        let has = [
-            first && both > 0,
-            first && both < 0,
-            !first && both > 0,
-            !first && both < 0,
-            both != 0 && period.sales.primary == 0,
-            both != 0 && period.sales.secondary == 0,
-            !book.settled && period.cost != 0 && period.sales == Sales::default(),
-            book.settled && period.cost != 0 && period.sales != Sales::default(),
-            both != 0 && rate == 200_000,
-            both != 0 && refused && ![2, 8].contains(&book.month),
-        ];
-        for (count, has) in self.sorts.iter_mut().zip(has) {
-            *count += usize::from(has);
-        }
+        self.month_ends.count(book, rate);
+        let open = book.period.cost != 0 && book.period.sales != Sales::default();
+        self.settled_with_cost_and_sales += usize::from(book.settled && open);
+        let hands_over = [2, 8].contains(&book.month);
+        let bears = plain::shares(book, Flaw::Nothing) != [0, 0];
+        self.refused_with_a_share += usize::from(refused && bears && !hands_over);
     }
 
     fn count_told(&mut self, book: &ElectricBook, rate: i64) {
@@ -114,15 +93,15 @@ impl Counts {
         }
     }
 
-    /// Prints the counts, and holds each of them to be large enough.
+    /// Prints the counts, and holds each to be large enough.
     fn check(&self) {
-        for (sort, &count) in SORTS.iter().zip(&self.sorts) {
-            println!("  {sort}: {count}");
-            assert!(count >= 1_000, "{sort} met {count} times");
-        }
-        for (flaw, &count) in FLAWS.iter().zip(&self.told) {
+        self.month_ends.check("month ends of sound books", 1_000);
+        let others = [self.settled_with_cost_and_sales, self.refused_with_a_share];
+        println!("  settled with cost and sales, refused with a share: {others:?}");
+        assert!(others.iter().all(|&count| count >= 1_000), "{others:?}");
+        for (flaw, count) in FLAWS.iter().zip(&self.told) {
             println!("  {flaw:?} told {count} times");
-            assert!(count >= 10, "{flaw:?} told {count} times");
+            assert!(*count >= 10, "{flaw:?} told {count} times");
         }
     }
 }
