@@ -224,9 +224,13 @@ fn the_paper_says_the_same() {
         // V 201,000 over 1,000, and the shares
         "3   First Interim Total                    2010.00                              ",
         "6   Second Interim Total by voltage        1909.50        1155.13         754.37",
-        "electric 4 filed 0.0009 0.0009",
-        // 60,000 × 115,513 / 12,000,000 and 60,000 × 75,437 / 12,000,000
+        // 60,000 × 115,513 / 12,000,000 and 60,000 × 75,437 / 12,000,000, in each open month
         "electric 5 interest 5.78 3.77",
+        "8   Interest (I)                                            28.90          18.85",
+        // 118,403 and 77,322 with the interest of five months, over 1,250,000 and 800,000
+        "electric 4 filed 0.0009 0.0010",
+        // 60,000 × 118,403 / 12,000,000 and 60,000 × 77,322 / 12,000,000, pending
+        "electric 5 interest 5.92 3.87",
         // 1,000,000 × 9 / 100, and −10 × 9 / 100 rounded
         "electric 3 line 900.00",
         "electric 3 line -0.01",
