@@ -20,7 +20,7 @@ const EXAMPLE: &str = "  # June of an L&P book
 const PRINTED: &str = "  1 1 done
   2 2 done
   3 3 line 0.00
-  4 5 interest 0.00 0.00
+  4 5 interest 0.94 0.61
 ";
 
 /// The whole language of lines, as `lines --help` prints it.
