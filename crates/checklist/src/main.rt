@@ -4,6 +4,7 @@
 
 mod handover;
 mod histories;
+mod interest;
 mod lines;
 mod refusal;
 mod remainders;
@@ -23,5 +24,6 @@ fn main(rt: HostRuntime) {
     remainders::check(&mut tally);
     handover::check(&mut tally);
     refusal::check(&mut tally);
+    interest::check(&mut tally);
     tally.print_count(&rt);
 }
