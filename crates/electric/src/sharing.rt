@@ -11,6 +11,8 @@ use amounts::Cents;
 use electric_rules::ElectricBook;
 use electric_settlement::Shares;
 
+// Inlined always: of two callers neither would have it inlined, and the book would go to it through memory.
+#[inline(always)]
 pub(crate) fn shares_of(book: &ElectricBook) -> Shares
     requires { in_limits book.now ≡ true }
     ensures { result ≡ shares_of (rates_of book.now.division) book.now.period }
