@@ -11,7 +11,7 @@ use amounts::Cents;
 use electric_rules::ElectricBook;
 use electric_settlement::Shares;
 
-// Inlined always: of two callers neither would have it inlined, and the book would go to it through memory.
+// Inlined always, since it has two callers: else it stays a call, to which the book goes through memory.
 #[inline(always)]
 pub(crate) fn shares_of(book: &ElectricBook) -> Shares
     requires { in_limits book.now ≡ true }

@@ -4,10 +4,10 @@
 pub mod Waiting
 pub mod Held
 pub mod Shares
+pub mod Provisional
 pub mod LevelSteps
 pub mod Conservation
 pub mod Refused
 pub mod Within
-pub mod Provisional
 pub mod Changed
 pub mod Sold

@@ -14,11 +14,11 @@ module _ (share : Rates → Period → ℤ) (rates : Rates) (p : Period) where
   unfolding provisional_share
   given settled e f = simp (e, f)
 
-  none_settled : (settled : Bool) → settled ≡ true → provisional_share share rates settled p ≡ pos 0
+  pub none_settled : (settled : Bool) → settled ≡ true → provisional_share share rates settled p ≡ pos 0
   unfolding provisional_share
   none_settled settled e = simp e
 
-  none_unsold : (settled : Bool) → no_kwh p ≡ true → provisional_share share rates settled p ≡ pos 0
+  pub none_unsold : (settled : Bool) → no_kwh p ≡ true → provisional_share share rates settled p ≡ pos 0
   unfolding provisional_share
   none_unsold true e = refl
   none_unsold false e = simp e
