@@ -186,8 +186,9 @@ typedef struct neapscroll_level_points {
 
 /*
  * What the electric book answers, and the book after it. number: 0, or the refusal's. filed: points, the factors of a
- * settlement. line: cents, of a bill. interest: cents, that month's, of a month end. An amount that the posting's kind is
- * not answered with is 0; with a refusal, and at opening, all are.
+ * settlement. line: cents, of a bill. interest: cents, that month's, of a month end, on what is carried, pending and due and
+ * on the share that settling the open period then would give. An amount that the posting's kind is not answered with is 0;
+ * with a refusal, and at opening, all are.
  */
 typedef struct neapscroll_electric_reply {
     uint8_t number;

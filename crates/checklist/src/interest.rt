@@ -1,4 +1,4 @@
-// Interest of open months: before anything is filed, a month's end bears interest on what settling today would give each level.
+// Interest of open months: a month's end bears interest on what settling today would share, before the settlement and in the next period.
 use crate::histories::History;
 use crate::report::Tally;
 use crate::shown::Shown;
