@@ -115,7 +115,7 @@ static void electric(void)
     neapscroll_posting sales = {NEAPSCROLL_SALES, 600000, 400000, 0};
     neapscroll_posting settle = {NEAPSCROLL_SETTLE, 1250000, 800000, 0};
     neapscroll_posting bill = {NEAPSCROLL_BILL, NEAPSCROLL_SECONDARY, 1000000, 0};
-    neapscroll_posting cancelled = {NEAPSCROLL_BILL, NEAPSCROLL_PRIMARY, -10, 0};
+    neapscroll_posting cancelled = {NEAPSCROLL_BILL, NEAPSCROLL_PRIMARY, -15, 0};
     neapscroll_posting refund = {NEAPSCROLL_ADJUST, NEAPSCROLL_PRIMARY, -90, 0};
     neapscroll_electric_reply opened = neapscroll_electric_open(NEAPSCROLL_L_AND_P);
     if (opened.number != NEAPSCROLL_ACCEPTED) {

@@ -69,7 +69,7 @@ fn electric_postings() -> Vec<Posting> {
     list.push(settle);
     list.extend([month_end; 4]);
     list.push(posting(BILL, [SECONDARY, 1_000_000, 0]));
-    list.push(posting(BILL, [PRIMARY, -10, 0]));
+    list.push(posting(BILL, [PRIMARY, -15, 0]));
     list.push(posting(ADJUST, [PRIMARY, -90, 0]));
     list.push(cost);
     list
@@ -231,9 +231,9 @@ fn the_paper_says_the_same() {
         "electric 4 filed 0.0009 0.0010",
         // 60,000 × 118,403 / 12,000,000 and 60,000 × 77,322 / 12,000,000, pending
         "electric 5 interest 5.92 3.87",
-        // 1,000,000 × 9 / 100, and −10 × 9 / 100 rounded
+        // 1,000,000 × 9 / 100, and −15 × 10 / 100, a half that goes away from zero
         "electric 3 line 900.00",
-        "electric 3 line -0.01",
+        "electric 3 line -0.02",
         // R 556,000 over D = 40,000 + 100
         "steam 4 filed 0.1387",
         "steam 6 refused 11",
