@@ -29,7 +29,8 @@ fn electric(tally: &mut Tally) -> Result<(), Refusal> {
     // On the whole open period again, and none on the interest of July.
     let what = "Interest of open months, electric, August";
     month(&mut history, what, "interest 5.78 3.77")?;
-    left_alone(&mut history);
+    left_open(&mut history);
+    accrued_alone(&mut history);
     history.months(2)?;
     settled(&mut history)?;
     month_after(&mut history)
@@ -45,14 +46,29 @@ fn month(
     Ok(())
 }
 
-// A month's end gives interest alone: the cost stays open, and nothing is pending.
-fn left_alone(history: &mut History<'_, ElectricBook>) {
-    let book = history.book();
+// A month's end leaves the open period as it is, cost and sales.
+fn left_open(history: &mut History<'_, ElectricBook>) {
+    let period = history.book().period;
     history.fact(
         "Interest of open months, electric, cost still open",
-        book.period.cost,
+        period.cost,
         "20000.00",
     );
+    history.fact(
+        "Interest of open months, electric, secondary kWh still open",
+        period.sales.secondary.0,
+        "600000",
+    );
+    history.fact(
+        "Interest of open months, electric, primary kWh still open",
+        period.sales.primary.0,
+        "400000",
+    );
+}
+
+// It gives either level its interest, and nothing is pending.
+fn accrued_alone(history: &mut History<'_, ElectricBook>) {
+    let book = history.book();
     history.fact(
         "Interest of open months, electric, accrued secondary",
         book.secondary.interest,
@@ -64,8 +80,13 @@ fn left_alone(history: &mut History<'_, ElectricBook>) {
         "7.54",
     );
     history.fact(
-        "Interest of open months, electric, pending before the settlement",
+        "Interest of open months, electric, pending secondary before the settlement",
         book.secondary.pending.due,
+        "0.00",
+    );
+    history.fact(
+        "Interest of open months, electric, pending primary before the settlement",
+        book.primary.pending.due,
         "0.00",
     );
 }
