@@ -19,6 +19,8 @@ mod met;
 #[path = "../common/month_ends.rs"]
 mod month_ends;
 mod openings;
+#[path = "../common/plain_settlement.rs"]
+mod plain_settlement;
 mod provisional;
 mod refusals;
 mod riders;

@@ -73,7 +73,7 @@ pub fn passes(name: &str, list: &[Posting], change: Change) {
 }
 
 /// So many months from June on, with something of every kind.
-pub fn months(count: usize) -> Vec<Posting> {
+fn months(count: usize) -> Vec<Posting> {
     let mut list = Vec::new();
     let mut month = JUNE;
     for _ in 0..count {

@@ -98,7 +98,7 @@ pub fn credits() -> Vec<Case> {
         (negative_cost, 0, 0, -18),
         (negative_cost, 0, -45, -18),
         (negative_cost, 0, -46, -19),
-        // V = 0, and half a cent of remainder is R = −1: −0.49 with 48 carried, −0.5 with 49.
+        // V = 0, and half a cent of remainder is R = −1: −0.49 with −48 carried, −0.5 with −49.
         (costs_the_base, -50_000, -48, 0),
         (costs_the_base, -50_000, -49, -1),
         (costs_the_base, -49_999, -49, 0),

@@ -111,3 +111,24 @@ fn the_remainder_of_a_settlement_moves_the_interest_of_the_next_period() {
     let january = expect([0, 0], carries, month_end(120_000));
     assert_eq!(january.period.remainder, -43_000);
 }
+
+#[test]
+fn a_credit_bears_before_its_settlement_and_beside_the_next_credit() {
+    let costs = expect([0, 0], open(1).book, cost(2_000_000));
+    let sold = expect([0, 0], costs, sales(600_000, 400_000));
+    // V = 2000000000 − 2538000000, R = −511100 and w = 60734: −310411 and −200689, a 200th of which is −1552.055 and −1003.445.
+    let mut book = expect([-1_552, -1_003], sold, month_end(60_000));
+    for _ in 0..4 {
+        book = expect([0, 0], book, month_end(0));
+    }
+    // −311963 and −201692 with the interest, over the estimates: −24.96 and −25.2.
+    let settled = expect([-25, -25], book, settle(1_250_000, 800_000));
+    // No share, but what is pending: −1559.815 and −1008.46.
+    let december = expect([-1_560, -1_008], settled, month_end(60_000));
+    let costs = expect([0, 0], december, cost(100_198));
+    let sold = expect([0, 0], costs, sales(0, 50_100));
+    // V = 100198000 − 127153800, R = round(−25608.01) = −25608, all primary: −227300 bear −1136.5.
+    let january = expect([-1_560, -1_137], sold, month_end(60_000));
+    assert_eq!(january.secondary.interest, -2 * 1_560);
+    assert_eq!(january.primary.interest, -1_008 - 1_137);
+}

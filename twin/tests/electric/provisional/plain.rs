@@ -1,76 +1,38 @@
 //! A separate, slow writing of a month end from the papers, with one flaw if wanted.
 
 use super::flaws::Flaw;
+use crate::plain_settlement::{round, Levels, Settlement, RATES};
 use twin::amounts::Run;
 use twin::electric::{ElectricBook, Level};
 
-/// Secondary and primary.
-type Levels = [i128; 2];
-
-/// round(a/b), by the size of a and then its sign.
-fn round(a: i128, b: i128) -> i128 {
-    (2 * a.abs() + b) / (2 * b) * a.signum()
-}
-
-/// As above, but with a half towards zero.
+/// The nearest whole number, but a half going towards zero.
 fn round_half_down(a: i128, b: i128) -> i128 {
     (2 * a.abs() + b - 1) / (2 * b) * a.signum()
 }
 
-/// The division's base and loss factors.
-fn rates(division: u8) -> (i128, Levels) {
-    match division {
-        0 => (1_799, [108_443, 106_231]),
-        _ => (2_538, [107_433, 104_187]),
-    }
-}
-
-fn sold(book: &ElectricBook) -> Levels {
-    let sales = book.period.sales;
-    [sales.secondary.into(), sales.primary.into()]
-}
-
-/// The paper's 95V + rem.
-fn hundredths(book: &ElectricBook, flaw: Flaw) -> i128 {
-    let division = match flaw {
-        Flaw::BaseOfOtherDivision => 1 - book.division,
-        _ => book.division,
-    };
-    let [secondary, primary] = sold(book);
-    let base_cost = rates(division).0 * (secondary + primary);
-    let variance = 1_000 * i128::from(book.period.cost) - base_cost;
-    let remainder = i128::from(book.period.remainder);
+fn settlement(book: &ElectricBook, flaw: Flaw) -> Settlement {
+    let mut settlement = Settlement::of(book);
+    let (base, losses) = RATES[usize::from(1 - book.division)];
     match flaw {
-        Flaw::VarianceIsBorneWhole => 100 * variance + remainder,
-        Flaw::RemainderLeftOut => 95 * variance,
-        Flaw::RemainderTakenOff => 95 * variance - remainder,
-        _ => 95 * variance + remainder,
+        Flaw::VarianceIsBorneWhole => settlement.borne = 100,
+        Flaw::BaseOfOtherDivision => settlement.base = base,
+        Flaw::LossesOfOtherDivision => settlement.losses = losses,
+        Flaw::PartedByKwh => settlement.losses = [1, 1],
+        Flaw::RemainderLeftOut => settlement.remainder = 0,
+        Flaw::RemainderTakenOff => settlement.remainder *= -1,
+        _ => {}
     }
+    settlement
 }
 
-/// The paper's w for a level, 0 for secondary; none where nothing is sold.
-fn weight(book: &ElectricBook, level: usize, flaw: Flaw) -> i128 {
-    let losses = match flaw {
-        Flaw::PartedByKwh => [1, 1],
-        Flaw::LossesOfOtherDivision => rates(1 - book.division).1,
-        _ => rates(book.division).1,
-    };
-    let sold = sold(book);
-    let weighed = [sold[0] * losses[0], sold[1] * losses[1]];
-    match weighed[0] + weighed[1] {
-        0 => 0,
-        both => round(100_000 * weighed[level], both),
-    }
-}
-
-fn parted(book: &ElectricBook, flaw: Flaw) -> Levels {
-    let exact = hundredths(book, flaw);
+fn parted(settlement: &Settlement, flaw: Flaw) -> Levels {
+    let exact = settlement.exact();
     let all = match flaw {
         Flaw::ShareTowardsZero => exact / 100_000,
         Flaw::HalfOfShareTowardsZero => round_half_down(exact, 100_000),
         _ => round(exact, 100_000),
     };
-    let secondary = round(all * weight(book, 0, flaw), 100_000);
+    let secondary = round(all * settlement.weight(0), 100_000);
     match flaw {
         Flaw::SharesOfOtherLevel => [all - secondary, secondary],
         Flaw::WholeShareAtSecondary => [all, 0],
@@ -78,7 +40,7 @@ fn parted(book: &ElectricBook, flaw: Flaw) -> Levels {
         Flaw::WholeShareAtBoth => [all, all],
         Flaw::HalfAtEither => [round(all, 2), all - round(all, 2)],
         Flaw::SharesRoundedApart => {
-            let primary = round(all * weight(book, 1, flaw), 100_000);
+            let primary = round(all * settlement.weight(1), 100_000);
             [secondary, primary]
         }
         _ => [secondary, all - secondary],
@@ -88,11 +50,12 @@ fn parted(book: &ElectricBook, flaw: Flaw) -> Levels {
 /// The provisional share of either level.
 pub fn shares(book: &ElectricBook, flaw: Flaw) -> Levels {
     let settled = book.settled && flaw != Flaw::BorneInSettledMonth;
-    let unsold = sold(book) == [0, 0] && flaw != Flaw::BorneWithoutSales;
+    let settlement = settlement(book, flaw);
+    let unsold = settlement.sold == [0, 0] && flaw != Flaw::BorneWithoutSales;
     let early = flaw == Flaw::BorneBeforeSettlingMonthAlone && ![4, 10].contains(&book.month);
     match settled || unsold || early || flaw == Flaw::OpenCostBearsNone {
         true => [0, 0],
-        false => parted(book, flaw),
+        false => parted(&settlement, flaw),
     }
 }
 
@@ -145,12 +108,12 @@ pub fn month_end(book: &ElectricBook, rate: i64, flaw: Flaw) -> (Levels, Electri
             _ => {}
         }
     }
-    let exact = hundredths(book, flaw);
     let period = &mut next.period;
     match flaw {
         Flaw::CostIsConsumed => period.cost = 0,
         Flaw::PeriodIsConsumed => (period.cost, period.sales) = Default::default(),
         Flaw::RemainderMovesOn => {
+            let exact = Settlement::of(book).exact();
             period.remainder = (exact - 100_000 * round(exact, 100_000)) as i64;
         }
         Flaw::RemainderIsDropped => period.remainder = 0,

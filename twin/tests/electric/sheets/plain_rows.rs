@@ -2,13 +2,11 @@
 
 use super::flaws::Flaw;
 use super::plain_text::{cents, percent, points};
+use crate::plain_settlement::{round, Levels, Settlement, RATES};
 use twin::electric::{ElectricBook, Level, Sales};
 
 /// A row's number, its label, and the cells of total, secondary and primary.
 pub type Row = [String; 5];
-
-/// A figure of each level, secondary first.
-type Levels = [i128; 2];
 
 /// The rows' numbers and labels, as document 002 has them.
 pub const HEADS: [(&str, &str); 16] = [
@@ -33,9 +31,6 @@ pub const HEADS: [(&str, &str); 16] = [
     ("13", "Current annual cost adjustment factor"),
 ];
 
-/// The base, and the loss factors of both levels, of L&P and of MPS.
-const RATES: [(i128, Levels); 2] = [(1_799, [108_443, 106_231]), (2_538, [107_433, 104_187])];
-
 /// What the rows are made of: the book before and after a settlement, and its estimates.
 pub struct Given {
     pub before: ElectricBook,
@@ -59,11 +54,6 @@ pub fn rows(given: &Given) -> Vec<Row> {
         [number, label, total, secondary, primary]
     })
     .collect()
-}
-
-/// The nearest whole number, a half going away from zero.
-fn round(a: i128, b: i128) -> i128 {
-    a.signum() * ((2 * a.abs() + b) / (2 * b))
 }
 
 fn total(text: String) -> [String; 3] {
@@ -91,27 +81,29 @@ impl Given {
         amounts.map(|amount| cents(amount, self.flaw))
     }
 
+    fn settlement(&self) -> Settlement {
+        let mut settlement = Settlement::of(&self.before);
+        let (other_base, _) = RATES[usize::from(1 - self.before.division)];
+        match self.flaw {
+            Flaw::BaseOfOtherDivision => settlement.base = other_base,
+            Flaw::WeightWithoutLosses => settlement.losses = [1, 1],
+            Flaw::RemainderLeftOut => settlement.remainder = 0,
+            _ => {}
+        }
+        settlement
+    }
+
     fn sold(&self) -> Levels {
-        let sales = self.before.period.sales;
-        [sales.secondary, sales.primary].map(i128::from)
+        self.settlement().sold
     }
 
     fn loss_factors(&self) -> Levels {
         RATES[usize::from(self.before.division)].1
     }
 
-    /// The base cost in thousandths of a cent.
-    fn base_cost(&self) -> i128 {
-        let division = match self.flaw {
-            Flaw::BaseOfOtherDivision => 1 - self.before.division,
-            _ => self.before.division,
-        };
-        RATES[usize::from(division)].0 * self.sold().iter().sum::<i128>()
-    }
-
     fn cost_cells(&self) -> Vec<[String; 3]> {
         let cost = i128::from(self.before.period.cost);
-        let exact = self.base_cost();
+        let exact = self.settlement().base_cost();
         let base = match self.flaw {
             Flaw::BaseTowardsZero => exact / 1_000,
             _ => round(exact, 1_000),
@@ -128,16 +120,6 @@ impl Given {
         [first, base, third]
             .map(|amount| total(format!("{sign}{}", cents(amount, self.flaw))))
             .to_vec()
-    }
-
-    /// The weight of secondary sales in hundred-thousandths.
-    fn weight(&self) -> i128 {
-        let ([secondary, primary], losses) = (self.sold(), self.loss_factors());
-        let (secondary, primary) = match self.flaw {
-            Flaw::WeightWithoutLosses => (secondary, primary),
-            _ => (secondary * losses[0], primary * losses[1]),
-        };
-        round(100_000 * secondary, secondary + primary)
     }
 
     fn sales_cells(&self) -> Vec<[String; 3]> {
@@ -188,34 +170,24 @@ impl Given {
     }
 
     fn weights_row(&self) -> [String; 3] {
-        let weight = self.weight();
+        let settlement = self.settlement();
+        let weight = settlement.weight(0);
         let weights = match self.flaw {
             Flaw::WeightOfOtherLevel => [100_000 - weight, weight],
-            Flaw::WeightsRoundedApart => [weight, self.primary_weight()],
+            Flaw::WeightsRoundedApart => [weight, settlement.weight(1)],
             _ => [weight, 100_000 - weight],
         };
         of_levels(weights.map(|parts| percent(parts, self.flaw)))
     }
 
-    /// The weight of primary sales, rounded by itself.
-    fn primary_weight(&self) -> i128 {
-        let (sold, losses) = (self.sold(), self.loss_factors());
-        let [secondary, primary] = [sold[0] * losses[0], sold[1] * losses[1]];
-        round(100_000 * primary, secondary + primary)
-    }
-
     /// The share of all customers and those of both levels.
     fn shares(&self) -> (i128, Levels) {
-        let period = self.before.period;
-        let variance = 1_000 * i128::from(period.cost) - self.base_cost();
-        let remainder = match self.flaw {
-            Flaw::RemainderLeftOut => 0,
-            _ => i128::from(period.remainder),
-        };
-        let all = round(95 * variance + remainder, 100_000);
-        let secondary = round(all * self.weight(), 100_000);
+        let settlement = self.settlement();
+        let all = round(settlement.exact(), 100_000);
+        let weight = settlement.weight(0);
+        let secondary = round(all * weight, 100_000);
         let primary = match self.flaw {
-            Flaw::SharesRoundedApart => round(all * (100_000 - self.weight()), 100_000),
+            Flaw::SharesRoundedApart => round(all * (100_000 - weight), 100_000),
             _ => all - secondary,
         };
         match self.flaw {
