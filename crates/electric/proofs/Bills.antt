@@ -55,7 +55,7 @@ module _ (u : ℤ) (l : Level) where
     second_within = within_by (search (bounds, rounds) depth 30) tt
 
 -- the balance that bears interest, and a month's interest on it
-pub bearing_within : (provisional : ℤ) (l : Level) → Within 9000000000000 provisional → LevelWithin l → Within 14000000000000 (bearing_of provisional l)
+bearing_within : (provisional : ℤ) (l : Level) → Within 9000000000000 provisional → LevelWithin l → Within 14000000000000 (bearing_of provisional l)
 unfolding bearing_of
 bearing_within provisional l ps ls = within_by (search bounds depth 30) tt
 

@@ -77,9 +77,9 @@ fn month_end(book: &mut ElectricBook, posting: Posting) -> Result<Answer, Refusa
     let on_primary = LevelInLimits {
         level: book.primary,
     };
-    let (secondary_share, primary_share) = sharing::provisional_shares(book);
-    let (secondary_interest, secondary) = on_secondary.ended(month_end, secondary_share)?;
-    let (primary_interest, primary) = on_primary.ended(month_end, primary_share)?;
+    let (secondary_provisional, primary_provisional) = sharing::provisional_shares(book);
+    let (secondary_interest, secondary) = on_secondary.ended(month_end, secondary_provisional)?;
+    let (primary_interest, primary) = on_primary.ended(month_end, primary_provisional)?;
     book.month = riders::months::month_after(book.month);
     book.settled = false;
     book.secondary = secondary;

@@ -84,42 +84,42 @@ impl LevelInLimits {
     }
 
     // A month's interest on the balance that bears it.
-    fn interest(self, month_end: MonthEnd, provisional: Cents) -> Cents
-        requires { Within 9000000000000 provisional.0 }
-        ensures { result ≡ cents (interest_on month_end.posting.first (bearing_of provisional.0 self.level)) }
+    fn interest(self, month_end: MonthEnd, provisional_share: Cents) -> Cents
+        requires { Within 9000000000000 provisional_share.0 }
+        ensures { result ≡ cents (interest_on month_end.posting.first (bearing_of provisional_share.0 self.level)) }
     {
         let level = self.level;
         let balance = level.carried.0
             + level.pending.due.0
             + level.first.due.0
             + level.second.due.0
-            + provisional.0;
+            + provisional_share.0;
         Cents(rounding::round_div(month_end.posting.first * balance, MONTHLY))
     }
 
     // The level at a month's end: that interest accrued, then the handover.
-    fn after(self, month_end: MonthEnd, interest: Cents) -> Level
+    fn after(self, entering: Option<EnteringRun>, interest: Cents) -> Level
         requires { Within 300000000000 interest.0 }
-        ensures { result ≡ handed_over month_end.entering (accrued_level interest.0 self.level) }
+        ensures { result ≡ handed_over entering (accrued_level interest.0 self.level) }
     {
         let accrued = Level {
             interest: Cents(self.level.interest.0 + interest.0),
             ..self.level
         };
-        handed_over(month_end.entering, accrued)
+        handed_over(entering, accrued)
     }
 
     // A month's interest, and the level at the month's end; or refusal 12. Its runs lay within their limits before.
     pub(crate) fn ended(
         self,
         month_end: MonthEnd,
-        provisional: Cents,
+        provisional_share: Cents,
     ) -> Result<(Cents, Level), Refusal>
-        requires { Within 9000000000000 provisional.0 }
-        ensures { result ≡ ended_at month_end.entering (interest_on month_end.posting.first (bearing_of provisional.0 self.level)) self.level }
+        requires { Within 9000000000000 provisional_share.0 }
+        ensures { result ≡ ended_at month_end.entering (interest_on month_end.posting.first (bearing_of provisional_share.0 self.level)) self.level }
     {
-        let interest = self.interest(month_end, provisional);
-        let next = self.after(month_end, interest);
+        let interest = self.interest(month_end, provisional_share);
+        let next = self.after(month_end.entering, interest);
         next.carried.stored()?;
         next.interest.stored()?;
         Ok((interest, next))

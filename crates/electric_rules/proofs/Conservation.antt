@@ -23,7 +23,7 @@ use Rattle.riders.specs.Rules.{left_by, answered_by, by_rules}
 use Rattle.riders.specs.Histories.{line_answered, entry_of, kept_after}
 use Rattle.electric_rules.proofs.Waiting.{months_turn}
 use Rattle.electric_rules.proofs.Shares.{Shared, settled_shared}
-use Rattle.electric_rules.proofs.Provisional.{none_settled, none_unsold}
+use Rattle.electric_rules.proofs.Provisional.{none_unsold}
 use Rattle.electric_rules.proofs.LevelSteps.{LevelKept, billed_keeps, adjusted_keeps, settled_keeps, ended_keeps}
 use Rattle.electric_rules.specs.declared.Rates.{Rates}
 use Rattle.electric_rules.specs.declared.Period.{Period}
@@ -141,7 +141,7 @@ module _ (rates : Rates) (b : ElectricBook) (t : Tally) (p : Posting) (k : Kept 
   same_provisional share = (λ i. provisional_share share (k.division i) b.settled (k.period i)) ∙ go b.settled k.unsold
     where
       go : (settled : Bool) → (settled ≡ true → no_kwh t.period ≡ true) → provisional_share share rates settled t.period ≡ provisional_share share rates false t.period
-      go true unsold = none_settled share rates t.period true refl ∙ sym (none_unsold share rates t.period false (unsold refl))
+      go true unsold = none_unsold share rates t.period true (unsold refl) ∙ sym (none_unsold share rates t.period false (unsold refl))
       go false unsold = refl
 
   month_keeps : not (in_limits b) ≡ false → forbidden MonthEnd (settles b.month) b.settled ≡ false → Keeps MonthEnd

@@ -1,5 +1,5 @@
 -- How large the amounts of a settlement can be, for books in limits and for any rates that a sheet may state. Assumes nothing.
-use Rattle.std.specs.Prelude.{◌≡◌, refl, Bool, true, false, cond, ◌||◌, ℕ, eqb, ℤ, pos, negsuc, ◌*ℤ◌, ◌≤ℤ◌}
+use Rattle.std.specs.Prelude.{◌≡◌, refl, Bool, true, false, cond, ℕ, eqb, ℤ, pos, negsuc, ◌*ℤ◌, ◌≤ℤ◌}
 use Rattle.ints.specs.Flags.{both}
 use Rattle.ints.specs.Order.{signed, of_le}
 use Rattle.ints.specs.Range.{in_range, Between, Within, in_range_true, in_range_yes}
@@ -10,7 +10,7 @@ use Rattle.rounding.proofs.WeightLaws.{weighable_true, weight_between}
 use Rattle.electric_rules.specs.declared.Rates.{Rates}
 use Rattle.electric_rules.specs.declared.Period.{Period}
 use Rattle.electric_rules.specs.Rates.{rates_lp, rates_mps, rates_of, rates_in_range}
-use Rattle.electric_rules.specs.Settlement.{variance_of, shareable_of, share_of, weight_by, secondary_share, primary_share, no_kwh, provisional_share}
+use Rattle.electric_rules.specs.Settlement.{variance_of, shareable_of, share_of, weight_by, secondary_share, primary_share}
 use Rattle.electric_rules.specs.Ranges.{PeriodWithin}
 
 pub record RatesWithin (r : Rates) : Type 0 where
@@ -84,12 +84,3 @@ module _ (r : Rates) (p : Period) (rs : RatesWithin r) (ps : PeriodWithin p) whe
   pub primary_within : Within 9000000000000 (primary_share r p)
   unfolding primary_share
   primary_within = let s = share_within in let w = secondary_within in within_by (search bounds depth 30) tt
-
-  -- before the settlement no more
-  pub provisional_within : (share : Rates → Period → ℤ) → Within 9000000000000 (share r p) → (settled : Bool) → Within 9000000000000 (provisional_share share r settled p)
-  unfolding provisional_share
-  provisional_within share h settled = go (settled || no_kwh p)
-    where
-      go : (none : Bool) → Within 9000000000000 (cond none (pos 0) (share r p))
-      go true = omega signed
-      go false = h

@@ -20,4 +20,4 @@ returns c =
     let l = c.args.self in
     let interest : Within 300000000000 c.args.interest.0 = c.requires in
     let e : to_z w64 (of_z w64 (to_z w64 (of_z w64 l.level.interest.0) +ℤ to_z w64 (of_z w64 c.args.interest.0))) ≡ l.level.interest.0 +ℤ c.args.interest.0 = exact (search (exacts, interest, l.within.interest) depth 30) tt in
-    c.handed_over.ensures ∙ ap (handed_over c.args.month_end.entering) (same_interest l.level e)
+    c.handed_over.ensures ∙ ap (handed_over c.args.entering) (same_interest l.level e)

@@ -31,7 +31,7 @@ module _ (c : After-after-next) where
   ended within = stored_or_12 within (c.interest-interest.result, next)
 
   -- by the rules' interest
-  by_rules : ended (level_in_limits next) ≡ ended_at c.args.month_end.entering (interest_on c.args.month_end.posting.first (bearing_of c.args.provisional.0 c.args.self.level)) c.args.self.level
+  by_rules : ended (level_in_limits next) ≡ ended_at c.args.month_end.entering (interest_on c.args.month_end.posting.first (bearing_of c.args.provisional_share.0 c.args.self.level)) c.args.self.level
   by_rules = ap (λ (interest : Cents). ended_at c.args.month_end.entering interest.0 c.args.self.level) c.interest-interest.ensures
 
   refused : level_in_limits next ≡ false → {refusal : Refusal} → refusal ≡ NextOutOfLimits → Err refusal ≡ ended (level_in_limits next)
@@ -40,7 +40,7 @@ module _ (c : After-after-next) where
 pub after-next-requires : goal.after-next-requires
 after-next-requires c =
     let l = c.args.self in
-    let small : Within 300000000000 c.interest-interest.result.0 = between_same (λ i. (c.interest-interest.ensures i).0) (interest_within c.args.month_end.posting.first c.args.provisional.0 l.level c.args.month_end.ranged.0 c.requires l.within) in
+    let small : Within 300000000000 c.interest-interest.result.0 = between_same (λ i. (c.interest-interest.ensures i).0) (interest_within c.args.month_end.posting.first c.args.provisional_share.0 l.level c.args.month_end.ranged.0 c.requires l.within) in
     small
 
 pub returns-in_err-stored : goal.returns-in_err-stored

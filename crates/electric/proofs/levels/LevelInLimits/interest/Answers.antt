@@ -13,7 +13,7 @@ overflow_add-balance-4 c =
     let pending = c.args.self.within.pending.due in
     let first = c.args.self.within.first.due in
     let second = c.args.self.within.second.due in
-    let provisional : Within 9000000000000 c.args.provisional.0 = c.requires in
+    let provisional : Within 9000000000000 c.args.provisional_share.0 = c.requires in
     fits64 (search (bounds, carried, pending, first, second, provisional) depth 30) tt
 
 pub overflow_mul-month_end : goal.overflow_mul-month_end
@@ -23,7 +23,7 @@ overflow_mul-month_end c =
     let pending = c.args.self.within.pending.due in
     let first = c.args.self.within.first.due in
     let second = c.args.self.within.second.due in
-    let provisional : Within 9000000000000 c.args.provisional.0 = c.requires in
+    let provisional : Within 9000000000000 c.args.provisional_share.0 = c.requires in
     fits64 (search (bounds, rate, carried, pending, first, second, provisional) depth 30) tt
 
 pub returns : goal.returns
@@ -34,5 +34,5 @@ returns c =
     let pending = c.args.self.within.pending.due in
     let first = c.args.self.within.first.due in
     let second = c.args.self.within.second.due in
-    let provisional : Within 9000000000000 c.args.provisional.0 = c.requires in
+    let provisional : Within 9000000000000 c.args.provisional_share.0 = c.requires in
     same_cents (exact (search (exacts, rounds, e_eq, rate, carried, pending, first, second, provisional) depth 30) tt)
