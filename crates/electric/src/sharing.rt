@@ -11,7 +11,7 @@ use amounts::Cents;
 use electric_rules::ElectricBook;
 use electric_settlement::Shares;
 
-// Inlined always, since it has two callers: else it stays a call, to which the book goes through memory.
+// Inlined always, as what it calls: settle and month end would else share one call.
 #[inline(always)]
 pub(crate) fn shares_of(book: &ElectricBook) -> Shares
     requires { in_limits book.now ≡ true }

@@ -39,9 +39,9 @@ NoCentLost =
 unfoldable pub NeverOutOfLimits : Type 0
 NeverOutOfLimits = (division : ℕ) (postings : List Posting) → in_limits (book_after rules (handed_back division) postings) ≡ true
 
--- a month's end, whatever the book: each level bears interest on all that it holds but the interest accrued, and on its provisional share. That is what
--- settling the book today would file at the level beside C and I, whatever the estimated sales; in a settled month, or with no kWh, there is none.
--- K, Ss, Sp and rem are left alone
+-- a month's end, whatever the book: each level bears interest on all that it holds but the interest accrued, and on its provisional share. That
+-- is what settling the book today would file at the level beside C and I, whatever the estimated sales; in a settled month, or with no kWh, there
+-- is none. K, Ss, Sp and rem are left alone
 pub record OpenMonth (b : ElectricBook) (p : Posting) : Type 0 where
   pub secondary :
       b.settled ≡ false → no_kwh b.period ≡ false →

@@ -53,7 +53,7 @@ pub fn rates_of(division: u8) -> Rates
 
 // What a settlement works out, for any rates and period: nothing is shared where a rate or an amount is out of range.
 // No Option: a public call asks for nothing, and its caller has shown the limits, so that it would never meet a None.
-// Inlined always, since two kinds of posting ask for it.
+// Inlined always: settle and month end both ask, and to a call rates, period and shares would go through memory.
 #[inline(always)]
 pub fn shares_of(rates: Rates, period: Period) -> Shares
     ensures { result ≡ shares_or0 rates period }
