@@ -19,7 +19,7 @@ use Rattle.electric_rules.specs.Limits.{level_in_limits, in_limits}
 abbrev pub TakenAt : Kind → ElectricBook → Posting → Result Answer Refusal → ElectricBook → Type 0
 TakenAt kind b p result left = TakenWithin (in_limits (next_at kind b p)) (answer_at kind b p) (next_at kind b p) b result left
 
--- its interest and what it is then, by the run that enters; or refusal 12
+-- a level's interest at a month's end, and the level after it, by the run that enters; or refusal 12
 abbrev pub ended_at : Option EnteringRun → ℤ → Level → Result (Cents × Level) Refusal
 ended_at entering interest l =
     let next = handed_over entering (accrued_level interest l) in

@@ -3,7 +3,7 @@
 use Rattle.std.specs.Prelude.{◌≡◌, Bool, false, ◌&&◌, Result, Ok, Err}
 use Rattle.std.proofs.Common.{rules, ap, sym, ◌∙◌}
 use Rattle.ints.specs.Flags.{and_false}
-use Rattle.ints.specs.Range.{Within, between_same}
+use Rattle.ints.specs.Range.{between_same}
 use Rattle.refusals.specs.Rows.{stored_or_12}
 use Rattle.refusals.specs.declared.Refusal.{Refusal}
 use Rattle.refusals.specs.declared.Refusal.TheVariants.{NextOutOfLimits}
@@ -40,8 +40,7 @@ module _ (c : After-after-next) where
 pub after-next-requires : goal.after-next-requires
 after-next-requires c =
     let l = c.args.self in
-    let small : Within 300000000000 c.interest-interest.result.0 = between_same (λ i. (c.interest-interest.ensures i).0) (interest_within c.args.month_end.posting.first c.args.provisional_share.0 l.level c.args.month_end.ranged.0 c.requires l.within) in
-    small
+    between_same (λ i. (c.interest-interest.ensures i).0) (interest_within c.args.month_end.posting.first c.args.provisional_share.0 l.level c.args.month_end.ranged.0 c.requires l.within)
 
 pub returns-in_err-stored : goal.returns-in_err-stored
 returns-in_err-stored c =
