@@ -17,7 +17,7 @@ impl fmt::Display for Line {
         let kind = posting.kind();
         write!(f, "{}", word(kind))?;
         // 2 to the number of fields.
-        let maps = kinds::maps_of(book, kind).unwrap_or(1);
+        let maps = kinds::maps_of(book, posting.kind).unwrap_or(1);
         if 1 < maps {
             write!(f, " {}", First { book, posting })?;
         }

@@ -70,10 +70,12 @@ static STEAM_MAPS: [Option<u8>; 8] = [
     Some(4), // reconcile
 ];
 
-// How many bit maps the records of a kind may have, 2 to the number of its fields; none where the book has no such kind.
-pub fn maps_of(book: Book, kind: Kind) -> Option<u8>
-    ensures { result ≡ maps_of book kind }
+// How many bit maps the records of a kind may have, 2 to the number of its fields; none where the book has no such kind. The kind by its number,
+// any at all, as a record and a posting hold it.
+pub fn maps_of(book: Book, kind: u8) -> Option<u8>
+    ensures { result ≡ maps_of book (kind_of kind) }
 {
+    let kind = Kind::from(kind);
     match book {
         Book::Electric => ELECTRIC_MAPS[kind as usize],
         Book::Steam => STEAM_MAPS[kind as usize],

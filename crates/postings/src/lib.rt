@@ -63,7 +63,7 @@ pub struct Posted<B> {
 pub fn unknown_kind(book: Book, posting: Posting) -> bool
     ensures { result ≡ unknown_kind book posting.kind }
 {
-    kinds::maps_of(book, posting.kind()).is_none()
+    kinds::maps_of(book, posting.kind).is_none()
 }
 
 // Refusal 3: a number that is not 0 and that the kind lacks.
@@ -72,7 +72,7 @@ pub fn stray_number(book: Book, posting: Posting) -> bool
     ensures { result ≡ stray_number book posting }
 {
     let bits = kinds::bitmap_of(posting);
-    match kinds::maps_of(book, posting.kind()) {
+    match kinds::maps_of(book, posting.kind) {
         Some(maps) => maps <= bits,
         None => 0 < bits,
     }

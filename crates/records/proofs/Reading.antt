@@ -16,7 +16,6 @@ use Rattle.postings.specs.Kinds.{kind_of, fields_of, stands_beyond}
 use Rattle.postings.specs.BitMaps.{bits_from, bit_map_of, maps_of}
 use Rattle.postings.specs.declared.Book.{Book}
 use Rattle.postings.specs.declared.Posting.{Posting}
-use Rattle.postings.specs.declared.kinds.Kind.{Kind}
 use Rattle.records.specs.Fields.{field_of}
 use Rattle.records.specs.Records.{record_length, kind_in, bit_map_in, fields_at, numbers_in, zero_present, reading_rows, posting_of, found_at, read_of}
 use Rattle.records.specs.Steps.{Finds, posting_in}
@@ -92,10 +91,6 @@ module _ (kind m : ℕ) (bytes : List ℕ) where
       sym (posting_is ∙ (λ i. cond (no_zero i) None (Some (posting_of kind (numbers i)))))
 
 -- ---- row by row
-
--- how many bit maps the number of a kind may have, as the code asks
-pub maps_found : (book : Book) (n : ℕ) {kind : Kind} {o maps : Option ℕ} → kind ≡ kind_of n → o ≡ maps_of book kind → o ≡ maps → maps_of book (kind_of n) ≡ maps
-maps_found book n e f g = ap (maps_of book) (sym e) ∙ sym f ∙ g
 
 module _ (book : Book) (s : List ℕ) (place : ℕ) (rest : List ℕ) (at_place : rest ≡ drop place s) where
   abbrev kind : ℕ

@@ -5,8 +5,7 @@ ghost use Rattle.std.specs.Prelude.{◌≡◌, drop};
 ghost use Rattle.records.specs.Fields.{field_or0};
 ghost use Rattle.records.specs.Records.{read_of, record_written, record_left};
 
-use postings::kinds::{self, Kind};
-use postings::{Book, Posting};
+use postings::{Book, Posting, kinds};
 use refusals::{Refusal, refuse_if};
 
 mod fields;
@@ -39,7 +38,7 @@ pub fn read_record(book: Book, bytes: &[u8], place: usize) -> Result<Found, Refu
     let [kind, bitmap, fields @ ..] = record else {
         return Err(Refusal::NoRecord);
     };
-    let maps = kinds::maps_of(book, Kind::from(*kind)).ok_or(Refusal::UnknownKind)?;
+    let maps = kinds::maps_of(book, *kind).ok_or(Refusal::UnknownKind)?;
     refuse_if(maps <= *bitmap, Refusal::StrayNumber)?;
     let length = parts::record_length(*bitmap);
     refuse_if(record.len() < length, Refusal::RecordCutShort)?;
@@ -55,7 +54,7 @@ pub fn read_record(book: Book, bytes: &[u8], place: usize) -> Result<Found, Refu
 pub fn write_record(book: Book, posting: Posting, buffer: &mut [u8]) -> Result<usize, Refusal>
     ensures { (result ≡ record_written book posting buffer.old) × (buffer.new ≡ record_left book posting buffer.old) }
 {
-    let maps = kinds::maps_of(book, posting.kind()).ok_or(Refusal::UnknownKind)?;
+    let maps = kinds::maps_of(book, posting.kind).ok_or(Refusal::UnknownKind)?;
     let bitmap = kinds::bitmap_of(posting);
     refuse_if(maps <= bitmap, Refusal::StrayNumber)?;
     let length = parts::record_length(bitmap);

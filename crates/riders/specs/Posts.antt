@@ -20,20 +20,29 @@ use Rattle.riders.specs.Months.{forbidden}
 -- ---- what the effect may rely on
 
 -- what the rows that every table begins with have shown, where no row before 12 holds
-module _ (book : Book) {Held : Type 0} (in_limits : Held → Bool) (settles settled : Bool) (b : Held) (p : Posting) (rest : List Row) where
+module _ (book : Book) {Held : Type 0} (in_limits : Held → Bool) (b : Held) (p : Posting) (rest : List Row) where
   abbrev begins : List Row
   begins =
       row UnknownKind (unknown_kind book p.kind)
       ∷ row StrayNumber (stray_number book p)
       ∷ row BookOutOfLimits (not (in_limits b))
       ∷ row OutOfRange (out_of_range book p)
-      ∷ row Forbidden (forbidden (kind_of p.kind) settles settled)
       ∷ rest
 
-  pub shown : refusal_by begins ≡ None → (in_limits b ≡ true) × Ranged book (kind_of p.kind) p × (forbidden (kind_of p.kind) settles settled ≡ false)
+  pub shown : refusal_by begins ≡ None → (in_limits b ≡ true) × Ranged book (kind_of p.kind) p × (unknown_kind book p.kind ≡ false)
   shown e =
       let none = none_holds begins e in
-      (not-false _ none.1.1.0, none_out_of_range book p none.1.1.1.0, none.1.1.1.1.0)
+      (not-false _ none.1.1.0, none_out_of_range book p none.1.1.1.0, none.0)
+
+-- and the row behind them: what the effect relies on
+module _ (book : Book) {Held : Type 0} (in_limits : Held → Bool) (settles settled : Bool) (b : Held) (p : Posting) (rest : List Row) where
+  abbrev begins_allowed : List Row
+  begins_allowed = begins book in_limits b p (row Forbidden (forbidden (kind_of p.kind) settles settled) ∷ rest)
+
+  pub allowed : refusal_by begins_allowed ≡ None → (in_limits b ≡ true) × Ranged book (kind_of p.kind) p × (forbidden (kind_of p.kind) settles settled ≡ false)
+  allowed e =
+      let found = shown book in_limits b p _ e in
+      (found.0, found.1, (none_holds begins_allowed e).1.1.1.1.0)
 
 -- ---- what is asked of the effect
 

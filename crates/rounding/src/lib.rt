@@ -52,6 +52,13 @@ fn with_sign(a: i64, n: u64) -> i64
     n as i64
 }
 
+// The size of a number, the least one's too. A contract of its own, by which a wrong size is refused.
+fn size(a: i64) -> u64
+    ensures { result ≡ nat_abs a }
+{
+    a.unsigned_abs()
+}
+
 // round(a/b), for every a and every b: a divisor below 1 gives 0, and no Option, since the C call hands out a number.
 pub fn round_div(a: i64, b: i64) -> i64
     ensures { result ≡ round a b }
@@ -59,7 +66,7 @@ pub fn round_div(a: i64, b: i64) -> i64
     if b < 1 {
         return 0;
     }
-    with_sign(a, nearest(a.unsigned_abs(), b.unsigned_abs()))
+    with_sign(a, nearest(size(a), size(b)))
 }
 
 // 100000 * part / whole to the nearest whole number, by two steps of long division: 100000 * part need not fit.
@@ -86,8 +93,8 @@ pub fn weight(secondary: i64, primary: i64) -> i64
     if !ints::in_range(primary, 0, WEIGHED) {
         return 0;
     }
-    let part = secondary.unsigned_abs();
-    let whole = part + primary.unsigned_abs();
+    let part = size(secondary);
+    let whole = part + size(primary);
     if whole == 0 {
         return 0;
     }

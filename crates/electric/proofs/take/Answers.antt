@@ -7,7 +7,7 @@ use Rattle.postings.specs.Ranged.{Ranged}
 use Rattle.postings.specs.declared.kinds.Kind.{Kind}
 use Rattle.postings.specs.declared.Book.TheVariants.{Electric}
 use Rattle.riders.specs.Months.{forbidden}
-use Rattle.riders.specs.Posts.{shown}
+use Rattle.riders.specs.Posts.{allowed}
 use Rattle.riders.proofs.PostLaws as posts
 use Rattle.electric_rules.specs.Calendar.{settles}
 use Rattle.electric_rules.specs.Limits.{in_limits}
@@ -27,7 +27,7 @@ unfolding before number_of
 effect-requires c =
     let b = c.args.book.now in
     let p = c.args.posting in
-    posts.known rules b p in_limits refl c.in_ok-kind.ensures (λ (kind : Kind). (in_limits b ≡ true) × Ranged Electric kind p × (forbidden kind (settles b.month) b.settled ≡ false)) (shown Electric in_limits (settles b.month) b.settled b p _)
+    posts.known rules b p in_limits refl c.in_ok-kind.ensures (λ (kind : Kind). (in_limits b ≡ true) × Ranged Electric kind p × (forbidden kind (settles b.month) b.settled ≡ false)) (allowed Electric in_limits (settles b.month) b.settled b p _)
 
 pub returns : goal.returns
 unfolding before number_of

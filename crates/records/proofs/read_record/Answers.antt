@@ -6,8 +6,8 @@ use Rattle.std.proofs.lemmas.Grind.{common_steps}
 use Rattle.refusals.specs.declared.Refusal.TheVariants.{NoRecord, UnknownKind, ZeroPresent}
 use borrow.Author.Tests.{leb-false}
 use Rattle.refusals.proofs.TableLaws.{row_accepts, row_refused}
-use Rattle.records.proofs.Reading.{maps_found, no_record, no_kind, stray, cut_short, zero, taken}
-use Rattle.records.specs.Records.{kind_in, bit_map_in, found_at}
+use Rattle.records.proofs.Reading.{no_record, no_kind, stray, cut_short, zero, taken}
+use Rattle.records.specs.Records.{bit_map_in, found_at}
 use Rattle.records.proofs.read_record.Goals as goal
 use Rattle.records.proofs.read_record.Goals.{After-rest}
 
@@ -33,13 +33,13 @@ pub returns-in_err-maps : goal.returns-in_err-maps
 returns-in_err-maps c =
     let refused : c.from_residual-in_err-maps.result ≡ Err c.in_err-maps.field-0.0 = search rules in
     let refusal : c.in_err-maps.field-0.0 ≡ UnknownKind = grind arith in
-    let none = maps_found c.args.book (kind_in c.in_ok-record.record.now) c.from.ensures c.maps_of.ensures c.in_err-maps.ensures.ok_part in
+    let none = sym c.maps_of.ensures ∙ c.in_err-maps.ensures.ok_part in
     refused ∙ ap Err refusal ∙ no_kind _ _ _ _ (rest_is (goal.at.returns-in_err-maps c).After-rest c.in_ok-record.ensures.ok_part) c.in-len2-up.len_at_least none
 
 pub returns-in_err-refuse_if : goal.returns-in_err-refuse_if
 returns-in_err-refuse_if c =
     let byte : bit_map_in c.in_ok-record.record.now < 256 = search rules in
-    let maps = maps_found c.args.book (kind_in c.in_ok-record.record.now) c.from.ensures c.maps_of.ensures c.in_ok-maps.ensures.ok_part in
+    let maps = sym c.maps_of.ensures ∙ c.in_ok-maps.ensures.ok_part in
     let refused : c.from_residual-in_err-refuse_if.result ≡ Err c.in_err-refuse_if.field-0.0 = search rules in
     let told = row_refused _ _ _ c.in_err-refuse_if.ensures in
     refused ∙ ap Err told.1 ∙ stray _ _ _ _ (rest_is (goal.at.returns-in_err-refuse_if c).After-rest c.in_ok-record.ensures.ok_part) c.in-len2-up.len_at_least _ maps byte told.0
@@ -47,7 +47,7 @@ returns-in_err-refuse_if c =
 pub returns-in_err-refuse_if-2 : goal.returns-in_err-refuse_if-2
 returns-in_err-refuse_if-2 c =
     let byte : bit_map_in c.in_ok-record.record.now < 256 = search rules in
-    let maps = maps_found c.args.book (kind_in c.in_ok-record.record.now) c.from.ensures c.maps_of.ensures c.in_ok-maps.ensures.ok_part in
+    let maps = sym c.maps_of.ensures ∙ c.in_ok-maps.ensures.ok_part in
     let few = row_accepts _ _ _ c.in_ok-refuse_if.ensures in
     let refused : c.from_residual-in_err-refuse_if-2.result ≡ Err c.in_err-refuse_if-2.field-0.0 = search rules in
     let told = row_refused _ _ _ c.in_err-refuse_if-2.ensures in
@@ -63,7 +63,7 @@ posting_in-requires c =
 pub returns-in_err-posting : goal.returns-in_err-posting
 returns-in_err-posting c =
     let byte : bit_map_in c.in_ok-record.record.now < 256 = search rules in
-    let maps = maps_found c.args.book (kind_in c.in_ok-record.record.now) c.from.ensures c.maps_of.ensures c.in_ok-maps.ensures.ok_part in
+    let maps = sym c.maps_of.ensures ∙ c.in_ok-maps.ensures.ok_part in
     let few = row_accepts _ _ _ c.in_ok-refuse_if.ensures in
     let whole = ap (ltb (length c.in_ok-record.record.now)) (sym c.record_length-length.ensures) ∙ row_accepts _ _ _ c.in_ok-refuse_if-2.ensures in
     let refused : c.from_residual-in_err-posting.result ≡ Err c.in_err-posting.field-0.0 = search rules in
@@ -79,7 +79,7 @@ overflow_add-result c =
 pub returns : goal.returns
 returns c =
     let byte : bit_map_in c.in_ok-record.record.now < 256 = search rules in
-    let maps = maps_found c.args.book (kind_in c.in_ok-record.record.now) c.from.ensures c.maps_of.ensures c.in_ok-maps.ensures.ok_part in
+    let maps = sym c.maps_of.ensures ∙ c.in_ok-maps.ensures.ok_part in
     let few = row_accepts _ _ _ c.in_ok-refuse_if.ensures in
     let whole = ap (ltb (length c.in_ok-record.record.now)) (sym c.record_length-length.ensures) ∙ row_accepts _ _ _ c.in_ok-refuse_if-2.ensures in
     ap (λ (n : ℕ). found_at (c.args.place + n) c.in_ok-posting.posting) c.record_length-length.ensures

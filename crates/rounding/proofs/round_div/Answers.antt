@@ -15,9 +15,9 @@ pub returns-then-b-lt1 : goal.returns-then-b-lt1
 returns-then-b-lt1 c =
     sym (round_below c.args.a c.args.b (omega signed))
 
-parts : (c : After-nearest) → Parts c.args.a c.args.b c.unsigned_abs.result c.unsigned_abs-2.result
+parts : (c : After-nearest) → Parts c.args.a c.args.b c.size.result c.size-2.result
 parts c =
-    record { dividend = size_read c.ranges.a c.unsigned_abs.ensures.value; divisor = size_read c.ranges.b c.unsigned_abs-2.ensures.value; positive = omega signed }
+    record { dividend = size_read c.ranges.a c.size.ensures; divisor = size_read c.ranges.b c.size-2.ensures; positive = omega signed }
 
 pub with_sign-requires : goal.with_sign-requires
 with_sign-requires c =
