@@ -35,8 +35,10 @@ pub fn read_record(book: Book, bytes: &[u8], place: usize) -> Result<Found, Refu
     ensures { result ≡ read_of book bytes.now place }
 {
     let record = parts::rest(bytes, place).ok_or(Refusal::NoRecord)?;
+    refuse_if(record.len() < 2, Refusal::NoRecord)?;
+    // The row above has tested that the pattern, which names the bytes, fits.
     let [kind, bitmap, fields @ ..] = record else {
-        return Err(Refusal::NoRecord);
+        unreachable!()
     };
     let maps = kinds::maps_of(book, *kind).ok_or(Refusal::UnknownKind)?;
     refuse_if(maps <= *bitmap, Refusal::StrayNumber)?;

@@ -1,5 +1,5 @@
 // The parts of a record: its length, its bit map, its fields.
-ghost use Rattle.std.specs.Prelude.{◌≡◌, ◌++◌, ◌+◌, ◌≤◌, ◌<◌, length, drop, pos, IsTrue, MatchOption};
+ghost use Rattle.std.specs.Prelude.{◌≡◌, ◌++◌, ◌+◌, ◌/◌, ◌%◌, ◌≤◌, ◌<◌, eqb, length, drop, pos, IsTrue, MatchOption};
 ghost use Rattle.postings.specs.Kinds.{numbers_of, standing};
 ghost use Rattle.postings.specs.BitMaps.{bit_map_of};
 ghost use Rattle.records.specs.Fields.{field_of};
@@ -40,6 +40,14 @@ fn number_in(fields: &[u8], stands: bool) -> Option<(i64, &[u8])>
     Some((number, rest))
 }
 
+// The third number, by the last bit of the map, as `number_in` finds it. A contract of its own, by which a third field of 0 is refused.
+fn third_in(fields: &[u8], bitmap: u8) -> Option<(i64, &[u8])>
+    requires { IsTrue (eqb (bitmap / 4 % 2) 1) → 8 ≤ length fields.now }
+    ensures { MatchOption result (IsTrue (eqb (bitmap / 4 % 2) 1) × (field_of fields.now ≡ pos 0)) (λ p. Finds (eqb (bitmap / 4 % 2) 1) fields.now p.0 p.1.now) }
+{
+    number_in(fields, bitmap / 4 % 2 == 1)
+}
+
 // The posting whose fields a bit map of at most three bits names; none where one of them is 0.
 // The kind is the byte, since a posting holds a number, and has been looked up before.
 pub(crate) fn posting_in(kind: u8, bitmap: u8, fields: &[u8]) -> Option<Posting>
@@ -48,7 +56,7 @@ pub(crate) fn posting_in(kind: u8, bitmap: u8, fields: &[u8]) -> Option<Posting>
 {
     let (first, rest) = number_in(fields, bitmap % 2 == 1)?;
     let (second, rest) = number_in(rest, bitmap / 2 % 2 == 1)?;
-    let (third, _) = number_in(rest, bitmap / 4 % 2 == 1)?;
+    let (third, _) = third_in(rest, bitmap)?;
     Some(Posting {
         kind,
         first,

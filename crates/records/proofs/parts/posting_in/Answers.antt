@@ -23,8 +23,8 @@ returns-in_err-second c =
     c.from_residual-in_err-second.ensures
     ∙ none_posted _ _ _ (found_zero _ _ _ _ _ c.in_ok-first.ensures ∙ zero_found _ _ _ c.in_err-second.ensures.0 c.in_err-second.ensures.1)
 
-pub number_in-requires-3 : goal.number_in-requires-3
-number_in-requires-3 c =
+pub third_in-requires : goal.third_in-requires
+third_in-requires c =
     let room = fields_room c.args.bitmap (length c.args.fields.now) c.requires.0 c.requires.1 in
     field_room [] _ _ (found_room (third_bit c.args.bitmap) _ _ _ _ c.in_ok-second.ensures (found_room (later_bits c.args.bitmap) _ _ _ _ c.in_ok-first.ensures room))
 
